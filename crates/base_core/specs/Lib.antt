@@ -1,0 +1,6 @@
+pub mod Faults
+pub mod Sink
+pub mod Files
+pub mod MemSink
+pub mod MemFiles
+pub mod Fit

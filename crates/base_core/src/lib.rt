@@ -1,0 +1,31 @@
+//! The ground that every crate stands on: owned texts and bytes, positions, sentence kinds,
+//! refusals and limits, and the traits through which the program meets the outside.
+#![tactic(auto)]
+
+mod bytes;
+mod dir_files;
+mod file_set;
+mod kind;
+mod lists;
+mod mem_files;
+mod mem_sink;
+mod memory;
+mod places;
+mod refusals;
+mod sinks;
+mod std_sink;
+mod text;
+
+pub use bytes::Bytes;
+pub use dir_files::DirFiles;
+pub use file_set::{FileFault, FileSet, TEXT_LIMIT};
+pub use kind::Kind;
+pub use lists::NumberList;
+pub use mem_files::{FileItem, FileList, MemFiles};
+pub use mem_sink::MemSink;
+pub use memory::NoMem;
+pub use places::{Change, ChangeList, Position, Range};
+pub use refusals::{Limit, Place, Refusal, Stop};
+pub use sinks::{Put, Sink};
+pub use std_sink::StdSink;
+pub use text::Text;
