@@ -1,0 +1,10 @@
+use Rattle.std.proofs.Common.{◌≡◌, ℕ, ◌*◌, ◌<◌, ◌≤◌, length, get_or}
+use Rattle.utf16_doc.specs.Units.{units_before}
+use Rattle.utf16_doc.proofs.units.unit_marks.Given as goal
+
+abbrev pub invariant-loop-k : goal.invariant-loop-k
+invariant-loop-k l = record {
+  count : length l.marks.items ≡ l.k;
+  units : (j : ℕ) → j < length l.marks.items → get_or l.marks.items j 0 ≡ units_before l.text (j * 256);
+  now : l.units ≡ units_before l.text (l.k * 256);
+  small : l.units ≤ 2 * (l.k * 256) }

@@ -1,0 +1,4 @@
+pub mod Lines
+pub mod Units
+pub mod Position
+pub mod Indexed
