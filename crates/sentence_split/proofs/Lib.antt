@@ -1,0 +1,5 @@
+pub mod Passing
+pub mod Stops
+pub mod Scanned
+pub mod Passes
+pub mod Lawful

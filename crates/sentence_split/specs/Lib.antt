@@ -1,0 +1,5 @@
+pub mod Items
+pub mod Split
+pub mod Scan
+pub mod Sentences
+pub mod Pieces

@@ -1,0 +1,34 @@
+ghost use Rattle.std.specs.Prelude.{◌≡◌, ◌^◌, ◌<◌, length, IfOk};
+ghost use Rattle.sentence_split.specs.Sentences.{sentences};
+ghost use Rattle.sentence_split.specs.Split.{IsSplit};
+
+use crate::pieces::{Piece, first_piece};
+use crate::{Span, SpanList};
+use base_core::NoMem;
+use std::alloc::Global;
+
+/// The sentences of a text. Each is a shortest stretch that ends one (Rocq manual, "Lexical
+/// conventions").
+pub fn split(alloc: Global, text: &str) -> Result<SpanList, NoMem>
+    requires { length text.now < 2 ^ 32 }
+    ensures same { IfOk result (λ spans. spans ≡ sentences 0 0 text.now) }
+    ensures split { IfOk result (λ spans. IsSplit (length text.now) text.now spans) }
+{
+    let text = text.as_bytes();
+    let mut spans = SpanList::new(alloc);
+    let mut at = 0;
+    while at < text.len() {
+        match first_piece(&text[at..]) {
+            Piece::Gap(len) => at += len,
+            Piece::Sentence(kind, len) => {
+                spans.push(Span {
+                    from: at as u32,
+                    to: (at + len) as u32,
+                    kind,
+                })?;
+                at += len;
+            }
+        }
+    }
+    Ok(spans)
+}
