@@ -3,3 +3,4 @@ pub mod Split
 pub mod Scan
 pub mod Sentences
 pub mod Pieces
+pub mod Within

@@ -1,7 +1,8 @@
-use Rattle.std.proofs.Common.{◌≡◌, ◌-◌, take, drop, length, length-drop, refl, sym, subst, ap, arith}
+use Rattle.std.proofs.Common.{◌≡◌, ℕ, List, ◌-◌, take, drop, length, length-drop, refl, sym, subst, ap, arith}
+use Rattle.sentence_split.specs.declared.spans.Span.{Span}
 use Rattle.sentence_split.specs.Sentences.{sentences}
 use Rattle.sentence_split.specs.Split.{IsSplit}
-use Rattle.sentence_split.proofs.Lawful.{sentences_split}
+use Rattle.sentence_split.proofs.Lawful.{sentences_split, spans_within}
 use Rattle.std.proofs.lemmas.Grind.{common_steps}
 use Rattle.sentence_split.proofs.Passing.{gap_passed, sentence_passed, shown_rest}
 use Rattle.sentence_split.proofs.splitting.split.Goals as goal
@@ -22,7 +23,11 @@ loop-at-preserved c =
       spans = sentence_passed c.as_bytes-text.result.now _ c.loop-at.spans c.push.new.self c.loop-at.at c.in-Sentence.len c.in-Sentence.kind _ c.loop-at-test.true shows c.in-Sentence.ensures.value refl c.in-Sentence.ensures.within.some c.in-Sentence.ensures.within.no_more c.in_ok-push-in-Sentence.ensures c.loop-at.invariant.spans;
     }
 
+all_split : (spans : List Span) (text : List ℕ) → spans ≡ sentences 0 0 text → IsSplit (length text) text spans
+all_split spans text same = subst (IsSplit (length text) text) (sym same) (sentences_split text)
+
 pub returns-clause-split : goal.returns-clause-split
-returns-clause-split c =
-    let same : c.loop-at.spans ≡ sentences 0 0 c.args.text.now = grind (arith, common_steps) in
-    subst (IsSplit (length c.args.text.now) c.args.text.now) (sym same) (sentences_split c.args.text.now)
+returns-clause-split c = all_split c.loop-at.spans c.args.text.now (grind (arith, common_steps))
+
+pub returns-clause-within : goal.returns-clause-within
+returns-clause-within c = spans_within c.args.text.now c.loop-at.spans (all_split c.loop-at.spans c.args.text.now (grind (arith, common_steps)))

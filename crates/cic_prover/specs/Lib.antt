@@ -1,0 +1,3 @@
+pub mod Axioms
+pub mod Check
+pub mod Names
