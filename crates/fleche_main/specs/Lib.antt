@@ -1,0 +1,7 @@
+pub mod Words
+pub mod Messages
+pub mod Reports
+pub mod Outcome
+pub mod Status
+pub mod Writes
+pub mod Run

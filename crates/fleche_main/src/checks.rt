@@ -1,0 +1,84 @@
+ghost use Rattle.std.specs.Prelude.{◌≡◌, ◌≢◌, ◌≤◌, Ok, length, IfSome, IfOk};
+ghost use Rattle.std.specs.Result.{IsErrOf};
+ghost use Rattle.base_core.specs.Faults.{Rose};
+ghost use Rattle.base_core.specs.Files.{file_at};
+ghost use Rattle.fleche_main.specs.Outcome.{ending_of, text_outcome, bytes_outcome, file_outcome};
+ghost use Rattle.fleche_main.specs.Run.{EndsAs};
+
+use crate::endings::{Ending, Halt};
+use crate::reports::report_lines;
+use crate::write::write_all;
+use base_core::{FileFault, FileSet, Sink};
+use cic_prover::{PlainReport, check_text};
+use std::alloc::Global;
+use std::str;
+use utf16_doc::{Doc, DocStop};
+
+/// Clean where no sentence is refused.
+fn ending_of(report: &PlainReport) -> Ending
+    ensures value { result ≡ ending_of report.now }
+    ensures formed { result ≢ Ending.NotAForm }
+    ensures read { result ≢ Ending.NotRead }
+{
+    if report.refusals.as_slice().len() == 0 {
+        Ending::Clean
+    } else {
+        Ending::Unclean
+    }
+}
+
+/// Checks a text and writes its report.
+fn report_text<S: Sink>(alloc: Global, name: &str, doc: &Doc, out: &mut S) -> Result<Ending, Halt>
+    ensures told { EndsAs (text_outcome name.now doc.now) result (S.written out.old) (S.written out.new) }
+    ensures failed { IsErrOf result Halt.SinkFailed → Rose (S.faults out.old) (S.faults out.new) }
+    ensures formed { IfOk result (λ ending. ending ≢ Ending.NotAForm) }
+    ensures read { IfOk result (λ ending. ending ≢ Ending.NotRead) }
+{
+    let report = check_text(alloc, doc.text())?;
+    let lines = report_lines(alloc, name, doc, &report)?;
+    write_all(out, lines.as_str().as_bytes())?;
+    Ok(ending_of(&report))
+}
+
+/// Reports a file's bytes, if they are a text.
+fn check_bytes<S: Sink>(
+    alloc: Global,
+    name: &str,
+    bytes: &[u8],
+    out: &mut S,
+) -> Result<Ending, Halt>
+    requires { length bytes.now ≤ 1048576 }
+    ensures told { EndsAs (bytes_outcome name.now bytes.now) result (S.written out.old) (S.written out.new) }
+    ensures failed { IsErrOf result Halt.SinkFailed → Rose (S.faults out.old) (S.faults out.new) }
+    ensures formed { IfOk result (λ ending. ending ≢ Ending.NotAForm) }
+    ensures read { IfOk result (λ ending. ending ≢ Ending.NotRead) }
+{
+    let Ok(text) = str::from_utf8(bytes) else {
+        return Ok(Ending::NotText);
+    };
+    match Doc::new(alloc, text) {
+        Ok(doc) => report_text(alloc, name, &doc, out),
+        Err(DocStop::NoMem) => Err(Halt::NoMem),
+        Err(_) => Ok(Ending::NotText),
+    }
+}
+
+/// Reads a file and reports it.
+pub fn check_file<S: Sink, F: FileSet>(
+    alloc: Global,
+    name: &str,
+    out: &mut S,
+    files: &mut F,
+) -> Result<Ending, Halt>
+    ensures told { IfSome (F.content files.old) (λ listed. EndsAs (file_outcome name.now (file_at listed name.now)) result (S.written out.old) (S.written out.new)) }
+    ensures failed { IsErrOf result Halt.SinkFailed → Rose (S.faults out.old) (S.faults out.new) }
+    ensures formed { IfOk result (λ ending. ending ≢ Ending.NotAForm) }
+    ensures not_read { result ≡ Ok Ending.NotRead → Rose (F.faults files.old) (F.faults files.new) }
+{
+    match files.read(alloc, name) {
+        Ok(bytes) => check_bytes(alloc, name, bytes.as_slice(), out),
+        Err(FileFault::Failed) => Ok(Ending::NotRead),
+        Err(FileFault::TooLong) => Ok(Ending::NotText),
+        Err(FileFault::NoMem) => Err(Halt::NoMem),
+    }
+}

@@ -1,0 +1,50 @@
+//! Checks files of proof documents: `check FILE` writes what a file declares and which of its
+//! sentences are refused.
+#![tactic(auto)]
+
+mod checks;
+mod endings;
+mod messages;
+mod reports;
+mod run;
+mod words;
+mod write;
+
+use base_core::{DirFiles, StdSink};
+use std::env;
+use std::io::ErrorKind;
+use std::process::ExitCode;
+use std::rt::{Env, Files};
+
+const USAGE: &str = "usage: fleche check FILE\n";
+
+/// The words of the command line behind the program's name. One that isn't UTF-8 makes them no form.
+fn command_line<R: Env + AllocGlobal>(rt: &R) -> Result<Vec<String>, u8> {
+    let words = match env::args(rt) {
+        Ok(words) => words,
+        Err(error) if error.kind() == ErrorKind::InvalidData => return Err(2),
+        Err(_) => return Err(4),
+    };
+    match words.skip(1).collect(rt.alloc()) {
+        Ok(words) => Ok(words),
+        Err(_) => Err(4),
+    }
+}
+
+fn main(rt: HostRuntime) -> ExitCode {
+    let status = match command_line(&rt) {
+        Ok(words) => {
+            let mut out = StdSink::new(&rt);
+            let mut files = DirFiles::new(&rt);
+            run::run(rt.alloc(), words.as_slice(), &mut out, &mut files)
+        }
+        Err(status) => status,
+    };
+    if status == 2 {
+        let _ = rt.eprint(USAGE);
+    }
+    ExitCode::from(status)
+}
+
+#[cfg(test)]
+mod tests;

@@ -1,0 +1,43 @@
+use base_core::{
+    Bytes, FileItem, FileList, FileSet, MemFiles, MemSink, NumberList, Put, Sink, Text,
+};
+use std::test::Fail;
+
+#[test]
+fn a_sink_fails_at_the_listed_calls_and_when_it_is_full(rt: HostRuntime) -> Result<(), Fail> {
+    let mut fails = NumberList::new(rt.alloc());
+    fails.push(2)?;
+    let mut sink = MemSink::new(rt.alloc(), 5, fails)?;
+    assert_eq!(rt; sink.put(b"abc"), Put::Took(3));
+    assert_eq!(rt; sink.put(b"x"), Put::Failed);
+    assert_eq!(rt; sink.put(b"defg"), Put::Took(2));
+    assert_eq!(rt; sink.put(b"fg"), Put::Failed);
+    assert_eq!(rt; sink.written(), b"abcde".as_slice());
+    assert_eq!(rt; sink.faults(), 2);
+    Ok(())
+}
+
+#[test]
+fn files_are_read_by_their_first_name(rt: HostRuntime) -> Result<(), Fail> {
+    let mut listed = FileList::new(rt.alloc());
+    for content in [b"one", b"two"] {
+        listed.push(FileItem {
+            name: Text::copy(rt.alloc(), "a.v")?,
+            content: Some(Bytes::copy(rt.alloc(), content)?),
+        })?;
+    }
+    listed.push(FileItem {
+        name: Text::copy(rt.alloc(), "b.v")?,
+        content: None,
+    })?;
+    let mut files = MemFiles::new(listed);
+    assert_eq!(rt;
+        files.read(rt.alloc(), "a.v")?.as_slice(),
+        b"one".as_slice()
+    );
+    assert_eq!(rt; files.faults(), 0);
+    assert!(rt; files.read(rt.alloc(), "b.v").is_err());
+    assert!(rt; files.read(rt.alloc(), "c.v").is_err());
+    assert_eq!(rt; files.faults(), 2);
+    Ok(())
+}

@@ -1,0 +1,109 @@
+use crate::run::run;
+use base_core::{Bytes, FileItem, FileList, MemFiles, MemSink, NoMem, NumberList, Text};
+use std::alloc::Global;
+use std::test::Fail;
+
+/// Runs words over one file `a.v`, and gives the status and what was written.
+fn outcome(
+    alloc: Global,
+    words: &[&str],
+    content: Option<&[u8]>,
+    room: usize,
+) -> Result<(u8, Vec<u8>), NoMem> {
+    let mut all = Vec::new(alloc);
+    for word in words {
+        all.push(String::from_str(alloc, *word)?)?;
+    }
+    let content = match content {
+        Some(bytes) => Some(Bytes::copy(alloc, bytes)?),
+        None => None,
+    };
+    let mut listed = FileList::new(alloc);
+    listed.push(FileItem {
+        name: Text::copy(alloc, "a.v")?,
+        content,
+    })?;
+    let mut files = MemFiles::new(listed);
+    let mut out = MemSink::new(alloc, room, NumberList::new(alloc))?;
+    let status = run(alloc, all.as_slice(), &mut out, &mut files);
+    Ok((status, out.written().to_vec(alloc)?))
+}
+
+#[test]
+fn rows_are_written(rt: HostRuntime) -> Result<(), Fail> {
+    let rows = [
+        ("", 0, "a.v: end 0 errors 0 admissions\n"),
+        (
+            "Axiom A : Prop.",
+            0,
+            "a.v: axiom A : Prop\na.v: end 0 errors 0 admissions\n",
+        ),
+        (
+            "Axiom A : Prop. Axiom A : Set.",
+            8,
+            "a.v:1:17: error 25: name taken\na.v: axiom A : Prop\na.v: end 1 errors 0 admissions\n",
+        ),
+        (
+            "Check A.\n- Axiom B : Set",
+            8,
+            "a.v:1:1: error 15: not built yet\na.v:2:1: error 54: no proof is open\na.v:2:3: error 14: unfinished sentence\na.v: end 3 errors 0 admissions\n",
+        ),
+        (
+            "(* \"*)\" *) Axiom A : Prop.",
+            0,
+            "a.v: axiom A : Prop\na.v: end 0 errors 0 admissions\n",
+        ),
+        (
+            "(* é𝒙 *) { Axiom _x':Set .\r\n(*",
+            8,
+            "a.v:1:11: error 54: no proof is open\na.v:2:1: error 14: unfinished sentence\na.v: axiom _x' : Set\na.v: end 2 errors 0 admissions\n",
+        ),
+        (
+            "Axiom in : Prop. Axiom B : Type. Axiom C : Prop.Axiom D : Prop.",
+            8,
+            "a.v:1:1: error 15: not built yet\na.v:1:18: error 15: not built yet\na.v:1:34: error 15: not built yet\na.v: end 3 errors 0 admissions\n",
+        ),
+    ];
+    for (text, status, written) in rows {
+        let got = outcome(rt.alloc(), &["check", "a.v"], Some(text.as_bytes()), 1000)?;
+        assert_eq!(rt; got.0, status, "at {text:?}");
+        assert_eq!(rt; got.1.as_slice(), written.as_bytes(), "at {text:?}");
+    }
+    Ok(())
+}
+
+#[test]
+fn what_gives_no_report_writes_nothing(rt: HostRuntime) -> Result<(), Fail> {
+    let text: &[u8] = b"Axiom A : Prop.";
+    let rows: [(&[&str], Option<&[u8]>, u8); 7] = [
+        (&["check", "a.v"], None, 9),
+        (&["check", "b.v"], Some(text), 9),
+        (&["check", "a.v"], Some(&[255]), 11),
+        (&["check"], Some(text), 2),
+        (&["check", "-a.v"], Some(text), 2),
+        (&["check", "a.v", "a.v"], Some(text), 2),
+        (&["serve", "a.v"], Some(text), 2),
+    ];
+    for (words, content, status) in rows {
+        let got = outcome(rt.alloc(), words, content, 1000)?;
+        assert_eq!(rt; got.0, status);
+        assert_eq!(rt; got.1.len(), 0);
+    }
+    Ok(())
+}
+
+#[test]
+fn a_full_sink_has_a_first_part(rt: HostRuntime) -> Result<(), Fail> {
+    let report = "a.v: axiom A : Prop\na.v: end 0 errors 0 admissions\n".as_bytes();
+    for room in 0..report.len() {
+        let got = outcome(
+            rt.alloc(),
+            &["check", "a.v"],
+            Some(b"Axiom A : Prop."),
+            room,
+        )?;
+        assert_eq!(rt; got.0, 5, "at {room}");
+        assert_eq!(rt; got.1.as_slice(), &report[..room], "at {room}");
+    }
+    Ok(())
+}
