@@ -24,6 +24,6 @@ position_is text ends offset line start upto before lines count is all first =
     let within : start ≤ offset = start_within text ends offset line start lines count is in
     let units : upto - before ≡ sum_by units_of (slice_range text start offset) = omega (arith, units_between text start offset within, all, first) in
     let units_at : upto - before ≡ sum_by units_of (slice_range text (line_start text (line_at text offset)) offset) =
-      units ∙ ap (λ s. sum_by units_of (slice_range text s offset)) (start_is text ends offset line start lines count is) in
+    units ∙ ap (λ s. sum_by units_of (slice_range text s offset)) (start_is text ends offset line start lines count is) in
     let joined : (l m u v : ℕ) → l ≡ m → u ≡ v → ◌≡◌ {A = Position} (record { line = l; character = u }) (record { line = m; character = v }) = λ l m u v p q. cc in
     joined _ _ _ _ (line_is text ends offset line lines count) units_at

@@ -1,6 +1,5 @@
 use Rattle.std.proofs.Common.{length, sym, ap, subst, arith}
 use Rattle.std.specs.List.Sorted.{IsNonDecreasing}
-
 use Rattle.utf16_doc.proofs.Ascending.{line_ends-rise, length-line_ends}
 use Rattle.utf16_doc.proofs.Sums.{units_between}
 use Rattle.utf16_doc.proofs.Positions.{start_within, position_is}

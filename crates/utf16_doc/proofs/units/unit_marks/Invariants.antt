@@ -7,4 +7,5 @@ invariant-loop-k l = record {
   count : length l.marks.items ≡ l.k;
   units : (j : ℕ) → j < length l.marks.items → get_or l.marks.items j 0 ≡ units_before l.text (j * 256);
   now : l.units ≡ units_before l.text (l.k * 256);
-  small : l.units ≤ 2 * (l.k * 256) }
+  small : l.units ≤ 2 * (l.k * 256);
+}
