@@ -14,6 +14,7 @@ mod places;
 mod refusals;
 mod sinks;
 mod std_sink;
+mod steps;
 mod text;
 
 pub use bytes::Bytes;
@@ -28,4 +29,5 @@ pub use places::{Change, ChangeList, Position, Range};
 pub use refusals::{Limit, Place, Refusal, Stop};
 pub use sinks::{Put, Sink};
 pub use std_sink::StdSink;
+pub use steps::Steps;
 pub use text::Text;

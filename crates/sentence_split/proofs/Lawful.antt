@@ -1,11 +1,10 @@
 -- The function gives the sentences of the text.
-use Rattle.std.proofs.Common.{◌≡◌, ℕ, ◌+◌, ◌-◌, ◌<◌, ◌≤◌, Bool, true, false, cond, eqb, Option, None, Some, List, [], ◌∷◌, ◌++◌, ◌||◌, length, take, drop, replicate, length-append, length-drop, append_assoc, append-nil, zero, suc, refl, sym, ◌∙◌, ap, subst, arith, All}
-use Rattle.std.specs.List.{prefix_len, AllByRecursion}
+use Rattle.std.proofs.Common.{◌≡◌, ℕ, ◌+◌, ◌-◌, ◌<◌, ◌≤◌, Bool, true, false, cond, eqb, Option, None, Some, List, [], ◌∷◌, ◌++◌, ◌||◌, length, take, drop, replicate, length-append, length-drop, append_assoc, append-nil, zero, suc, refl, sym, ◌∙◌, ap, subst, arith}
+use Rattle.std.specs.List.{prefix_len}
 use Rattle.std.proofs.lemmas.Bool.Decides.{nat_tests}
 use Rattle.std.proofs.lemmas.Grind.{common_steps}
 use Rattle.std.proofs.lemmas.List.{take-append-drop}
 use Rattle.std.proofs.lemmas.List.Sums.{prefix_len-le-length}
-use Rattle.std.proofs.lemmas.List.Elements.{All-from_recursion}
 use Rattle.base_core.specs.declared.kind.Kind.{Kind}
 use Rattle.base_core.specs.declared.kind.Kind.TheVariants.{Plain, Bullet, BraceOpen, BraceClose, Unfinished}
 use Rattle.sentence_split.specs.declared.spans.Span.{Span}
@@ -13,7 +12,6 @@ use Rattle.sentence_split.specs.declared.pieces.Piece.{Piece}
 use Rattle.sentence_split.specs.declared.pieces.Piece.TheVariants.{Gap, Sentence}
 use Rattle.sentence_split.specs.Items.{Items, End, Comment, Byte, spells, begins, opens, AreItems, IsGap, is_blank}
 use Rattle.sentence_split.specs.Split.{is_bullet, is_sign, is_ended, Ends, EndsFirst, IsRun, BeginsNoSign, IsSentence, BeginsSentence, IsNext, IsAllGap, IsSplit}
-use Rattle.sentence_split.specs.Within.{IsWithinText}
 use Rattle.sentence_split.specs.Scan.{sentence_end, comment_end}
 use Rattle.sentence_split.specs.Sentences.{plain_piece, comment_piece, first_piece, with_piece, sentences}
 use Rattle.sentence_split.proofs.Passing.{sentences-gap, sentences-sentence}
@@ -283,17 +281,3 @@ split_within (suc n) total at (b ∷ rest) h e =
 -- the function gives the sentences of the text
 pub sentences_split : (text : List ℕ) → IsSplit (length text) text (sentences 0 0 text)
 sentences_split text = split_within (length text) (length text) 0 text (omega arith) (omega arith)
-
--- each sentence stands within the text
-next_within : (total : ℕ) (text : List ℕ) (span : Span) (rest : List ℕ) → IsNext total text span rest → IsWithinText total span
-next_within total text span rest n = record {
-  ordered = omega (arith, n.from_is, n.to_is, length-append n.sentence rest);
-  within = omega (arith, n.to_is);
-}
-
-split_spans : (total : ℕ) (text : List ℕ) (spans : List Span) → IsSplit total text spans → AllByRecursion (IsWithinText total) spans
-split_spans total text [] h = tt
-split_spans total text (span ∷ spans) h = (next_within total text span h.0 h.1, split_spans total h.0 spans h.2)
-
-pub spans_within : (text : List ℕ) (spans : List Span) → IsSplit (length text) text spans → All (IsWithinText (length text)) spans
-spans_within text spans h = All-from_recursion (IsWithinText (length text)) spans (split_spans (length text) text spans h)

@@ -3,3 +3,4 @@ pub mod Stops
 pub mod Scanned
 pub mod Passes
 pub mod Lawful
+pub mod Cuts

@@ -1,7 +1,7 @@
 ghost use Rattle.std.specs.Prelude.{◌≡◌, ◌^◌, ◌<◌, length, All, IfOk};
 ghost use Rattle.sentence_split.specs.Sentences.{sentences};
 ghost use Rattle.sentence_split.specs.Split.{IsSplit};
-ghost use Rattle.sentence_split.specs.Within.{IsWithinText};
+ghost use Rattle.sentence_split.specs.Within.{IsSpanOf};
 
 use crate::pieces::{Piece, first_piece};
 use crate::{Span, SpanList};
@@ -14,7 +14,7 @@ pub fn split(alloc: Global, text: &str) -> Result<SpanList, NoMem>
     requires { length text.now < 2 ^ 32 }
     ensures same { IfOk result (λ spans. spans ≡ sentences 0 0 text.now) }
     ensures split { IfOk result (λ spans. IsSplit (length text.now) text.now spans) }
-    ensures within { IfOk result (All (IsWithinText (length text.now))) }
+    ensures spans { IfOk result (All (IsSpanOf text.now)) }
 {
     let text = text.as_bytes();
     let mut spans = SpanList::new(alloc);

@@ -2,7 +2,8 @@ use Rattle.std.proofs.Common.{◌≡◌, ℕ, List, ◌-◌, take, drop, length,
 use Rattle.sentence_split.specs.declared.spans.Span.{Span}
 use Rattle.sentence_split.specs.Sentences.{sentences}
 use Rattle.sentence_split.specs.Split.{IsSplit}
-use Rattle.sentence_split.proofs.Lawful.{sentences_split, spans_within}
+use Rattle.sentence_split.proofs.Lawful.{sentences_split}
+use Rattle.sentence_split.proofs.Cuts.{spans_of}
 use Rattle.std.proofs.lemmas.Grind.{common_steps}
 use Rattle.sentence_split.proofs.Passing.{gap_passed, sentence_passed, shown_rest}
 use Rattle.sentence_split.proofs.splitting.split.Goals as goal
@@ -29,5 +30,5 @@ all_split spans text same = subst (IsSplit (length text) text) (sym same) (sente
 pub returns-clause-split : goal.returns-clause-split
 returns-clause-split c = all_split c.loop-at.spans c.args.text.now (grind (arith, common_steps))
 
-pub returns-clause-within : goal.returns-clause-within
-returns-clause-within c = spans_within c.args.text.now c.loop-at.spans (all_split c.loop-at.spans c.args.text.now (grind (arith, common_steps)))
+pub returns-clause-spans : goal.returns-clause-spans
+returns-clause-spans c = spans_of c.args.text.now c.loop-at.spans c.utf8.text (all_split c.loop-at.spans c.args.text.now (grind (arith, common_steps)))
