@@ -1,0 +1,18 @@
+-- What holds of every prover.
+use Rattle.std.specs.Prelude.{ℕ, ◌<◌, ◌≤◌, List}
+use Rattle.std.specs.Str.{IsCharBoundary}
+use Rattle.prover_iface.specs.declared.diagnostics.RelDiag.{RelDiag}
+use Rattle.prover_iface.specs.declared.outline.OutlineItem.{OutlineItem}
+
+-- a diagnostic of a sentence with this text: a severity from 1 to 3, at a stretch of whole characters
+pub record IsDiag (text : List ℕ) (diag : RelDiag) : Type 0 where
+  pub severe : 1 ≤ diag.severity
+  pub mild : diag.severity ≤ 3
+  pub ordered : diag.from ≤ diag.to
+  pub from_cut : IsCharBoundary text diag.from
+  pub to_cut : IsCharBoundary text diag.to
+
+-- a declaration after so many sentences is by one of them
+pub record IsPast (count : ℕ) (item : OutlineItem) : Type 0 where
+  pub ordered : item.first ≤ item.last
+  pub past : item.last < count

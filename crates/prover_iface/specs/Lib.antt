@@ -1,0 +1,4 @@
+pub mod Sentences
+pub mod Exec
+pub mod Laws
+pub mod Check

@@ -1,0 +1,91 @@
+ghost use Rattle.std.specs.Prelude.{◌≡◌, ℕ, ◌+◌, ◌<◌, ◌≤◌, Option, List, All, length, IfOk, IfSome, MatchResult};
+ghost use Rattle.base_core.specs.Fit.{IsFit};
+ghost use Rattle.prover_iface.specs.declared.diagnostics.RelDiag.{RelDiag};
+ghost use Rattle.prover_iface.specs.declared.outline.OutlineItem.{OutlineItem};
+ghost use Rattle.prover_iface.specs.declared.goals.GoalsView.{GoalsView};
+ghost use Rattle.prover_iface.specs.Sentences.{Sentence, sentence};
+ghost use Rattle.prover_iface.specs.Exec.{Answers, Works, fold_exec};
+ghost use Rattle.prover_iface.specs.Laws.{IsDiag, IsPast};
+
+use crate::{DiagList, GoalsView, OutlineList};
+use base_core::{Kind, NoMem, Steps};
+use std::alloc::Global;
+use std::sync::ledger::Ledger;
+
+/// What became of a sentence.
+#[derive(Debug, Drop)]
+pub enum Outcome<S> {
+    /// It ran to its end: the state behind it, what is told of it, and its cost in units.
+    Done {
+        state: S,
+        diags: DiagList,
+        cost: u32,
+    },
+    /// The units that were handed in didn't suffice, and nothing came of it.
+    Interrupted,
+}
+
+/// A prover. Its meanings name no value of it: they are the same for each of its values.
+pub trait Prover: Drop {
+    /// What is kept from one sentence to the next. An old state stays as it was.
+    type State: Drop;
+
+    /// What a state is, for contracts.
+    ghost Meaning: { Type 0 };
+
+    ghost meaning: { Self.State → Meaning };
+
+    /// The state before any sentence, and what it costs to make it.
+    ghost first: { Meaning };
+
+    ghost first_cost: { ℕ };
+
+    /// The state behind a sentence, what is told of the sentence, and its cost.
+    ghost after: { Meaning → Sentence → Meaning };
+
+    ghost diagnosed: { Meaning → Sentence → List RelDiag };
+
+    ghost cost: { Meaning → Sentence → ℕ };
+
+    /// What the calls of these names answer.
+    ghost opened: { Meaning → Option ℕ };
+
+    ghost goals_of: { Meaning → Option GoalsView };
+
+    ghost outline_of: { Meaning → List OutlineItem };
+
+    /// The state before any sentence.
+    fn initial<C: Ledger>(&self, alloc: Global, steps: &mut Steps<C>) -> Result<Self::State, NoMem>
+        ensures first { IfOk result (λ s. meaning s ≡ first) }
+        ensures work { Works first_cost first_cost steps.old steps.new result };
+
+    /// The same state once more.
+    fn share(&self, state: &Self::State) -> Result<Self::State, NoMem>
+        ensures { IfOk result (λ s. meaning s ≡ meaning state.now) };
+
+    /// Runs a sentence with so many units. It is done exactly where its cost is at most these.
+    fn exec<C: Ledger>(&self, alloc: Global, state: &Self::State, kind: Kind, text: &str, units: u32, steps: &mut Steps<C>) -> Result<Outcome<Self::State>, NoMem>
+        requires { IsFit kind text.now }
+        ensures answer { IfOk result (Answers meaning (after (meaning state.now) (sentence kind text.now)) (diagnosed (meaning state.now) (sentence kind text.now)) (cost (meaning state.now) (sentence kind text.now)) units) }
+        ensures work { Works (cost (meaning state.now) (sentence kind text.now)) units steps.old steps.new result };
+
+    /// The number of the sentence that began the proof under way.
+    fn left_open(&self, state: &Self::State) -> Option<u32>
+        ensures { result ≡ opened (meaning state.now) };
+
+    /// The goals of the proof under way.
+    fn goals(&self, alloc: Global, state: &Self::State) -> Result<Option<GoalsView>, NoMem>
+        ensures { IfOk result (λ goals. goals ≡ goals_of (meaning state.now)) };
+
+    /// The declarations so far.
+    fn outline(&self, alloc: Global, state: &Self::State) -> Result<OutlineList, NoMem>
+        ensures { IfOk result (λ outline. outline ≡ outline_of (meaning state.now)) };
+
+    ghost bounded: { (m : Meaning) (s : Sentence) → cost m s ≤ 1000001 };
+
+    ghost placed: { (m : Meaning) (s : Sentence) → All (IsDiag s.text) (diagnosed m s) };
+
+    ghost opened_before: { (sentences : List Sentence) → IfSome (opened (fold_exec after first sentences)) (λ n. n < length sentences) };
+
+    ghost declared_before: { (sentences : List Sentence) → All (IsPast (length sentences)) (outline_of (fold_exec after first sentences)) };
+}
