@@ -1,0 +1,7 @@
+//! Lists and maps that share their nodes: a change gives a new value, and the old one stays.
+#![tactic(auto)]
+
+mod balance;
+mod list;
+
+pub use list::SharedList;
