@@ -7,7 +7,12 @@ use std::alloc::Global;
 use std::rc::Rc;
 
 /// Two lists that balance each other, and an item between them.
-pub(crate) fn fork<T: Drop>(alloc: Global, left: SharedList<T>, item: Rc<T>, right: SharedList<T>) -> Result<SharedList<T>, NoMem>
+pub(crate) fn fork<T: Drop>(
+    alloc: Global,
+    left: SharedList<T>,
+    item: Rc<T>,
+    right: SharedList<T>,
+) -> Result<SharedList<T>, NoMem>
     requires even { AreBalanced (length left) (length right) }
     requires room { length left + length right < 2 ^ 60 }
     ensures { IfOk result (λ list. list ≡ left ++ (item.value ∷ right)) }
@@ -28,7 +33,12 @@ pub(crate) fn fork<T: Drop>(alloc: Global, left: SharedList<T>, item: Rc<T>, rig
 }
 
 /// The same of two lists of which one may have one item too many.
-pub(crate) fn balanced<T: Drop>(alloc: Global, left: SharedList<T>, item: Rc<T>, right: SharedList<T>) -> Result<SharedList<T>, NoMem>
+pub(crate) fn balanced<T: Drop>(
+    alloc: Global,
+    left: SharedList<T>,
+    item: Rc<T>,
+    right: SharedList<T>,
+) -> Result<SharedList<T>, NoMem>
     requires near { AreNearlyBalanced (length left) (length right) }
     requires room { length left + length right < 2 ^ 60 }
     ensures { IfOk result (λ list. list ≡ left ++ (item.value ∷ right)) }
@@ -46,7 +56,12 @@ pub(crate) fn balanced<T: Drop>(alloc: Global, left: SharedList<T>, item: Rc<T>,
 
 /// Moves a part of the left side over to the right: its right side, or, where that is too heavy
 /// against its left one, a part of that.
-fn turn_right<T: Drop>(alloc: Global, left: &SharedList<T>, item: Rc<T>, right: SharedList<T>) -> Result<SharedList<T>, NoMem>
+fn turn_right<T: Drop>(
+    alloc: Global,
+    left: &SharedList<T>,
+    item: Rc<T>,
+    right: SharedList<T>,
+) -> Result<SharedList<T>, NoMem>
     requires leans { LeansLeft (length left.now) (length right) }
     requires room { length left.now + length right < 2 ^ 60 }
     ensures { IfOk result (λ list. list ≡ left.now ++ (item.value ∷ right)) }
@@ -62,13 +77,23 @@ fn turn_right<T: Drop>(alloc: Global, left: &SharedList<T>, item: Rc<T>, right: 
     let Node::Fork(inner) = &middle.node else {
         unreachable!()
     };
-    let first = fork(alloc, outer.left.share()?, outer.item.clone()?, inner.left.share()?)?;
+    let first = fork(
+        alloc,
+        outer.left.share()?,
+        outer.item.clone()?,
+        inner.left.share()?,
+    )?;
     let second = fork(alloc, inner.right.share()?, item, right)?;
     fork(alloc, first, inner.item.clone()?, second)
 }
 
 /// Moves a part of the right side over to the left.
-fn turn_left<T: Drop>(alloc: Global, left: SharedList<T>, item: Rc<T>, right: &SharedList<T>) -> Result<SharedList<T>, NoMem>
+fn turn_left<T: Drop>(
+    alloc: Global,
+    left: SharedList<T>,
+    item: Rc<T>,
+    right: &SharedList<T>,
+) -> Result<SharedList<T>, NoMem>
     requires leans { LeansLeft (length right.now) (length left) }
     requires room { length left + length right.now < 2 ^ 60 }
     ensures { IfOk result (λ list. list ≡ left ++ (item.value ∷ right.now)) }
@@ -85,6 +110,11 @@ fn turn_left<T: Drop>(alloc: Global, left: SharedList<T>, item: Rc<T>, right: &S
         unreachable!()
     };
     let first = fork(alloc, left, item, inner.left.share()?)?;
-    let second = fork(alloc, inner.right.share()?, outer.item.clone()?, outer.right.share()?)?;
+    let second = fork(
+        alloc,
+        inner.right.share()?,
+        outer.item.clone()?,
+        outer.right.share()?,
+    )?;
     fork(alloc, first, inner.item.clone()?, second)
 }

@@ -3,5 +3,10 @@
 
 mod balance;
 mod list;
+mod map;
 
 pub use list::SharedList;
+pub use map::SharedMap;
+
+#[cfg(test)]
+mod tests;
