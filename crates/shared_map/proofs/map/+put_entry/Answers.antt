@@ -1,4 +1,4 @@
-use Rattle.std.proofs.Common.{◌≡◌, Result, Ok, Err, IfOk, ◌∷◌, ◌++◌, ◌∙◌, sym, rules}
+use Rattle.std.proofs.Common.{◌≡◌, Result, Ok, Err, IfOk, ◌∷◌, ◌++◌, ◌∙◌, rules}
 use Rattle.shared_map.specs.Entries.{put}
 use Rattle.shared_map.proofs.EntriesLaws.{put-left, put-here, put-right}
 use Rattle.shared_map.proofs.map.+put_entry.Goals as goal
