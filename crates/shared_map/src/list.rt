@@ -132,7 +132,8 @@ impl<T: Drop> SharedList<T> {
         self.set_item(alloc, at, item)
     }
 
-    /// The list with one more item at a place; the items from there on move up by one.
+    /// The list with one more item at a place; the items from there on move up by one. A list of
+    /// 2^60 items answers `NoMem`.
     pub fn with_insert(&self, alloc: Global, at: usize, item: T) -> Result<SharedList<T>, NoMem>
         requires { at ≤ length self.now }
         ensures { IfOk result (λ list. list ≡ insert self.now at item) }

@@ -72,7 +72,8 @@ impl<K: Ord + Drop, V: Drop> SharedMap<K, V> {
         Ok(SharedMap { entries })
     }
 
-    /// The map with a pair, in the place of one whose key compares as equal.
+    /// The map with a pair, in the place of one whose key compares as equal. A map of 2^60 entries
+    /// answers `NoMem`.
     pub fn with(&self, alloc: Global, k: K, v: V) -> Result<SharedMap<K, V>, NoMem>
         ensures entries { IfOk result (λ map. map ≡ put K.cmp self.now (k, v)) }
         ensures values { IfOk result (λ map. PutsOnly K.cmp self.now map k v) }
