@@ -1,3 +1,5 @@
 pub mod Numbers
 pub mod LineLemmas
 pub mod ScanLemmas
+pub mod GrowLemmas
+pub mod StreamLemmas

@@ -5,7 +5,9 @@
 mod faults;
 mod fields;
 mod header;
+mod laws;
 
 pub use faults::{FrameFault, FrameStop};
 pub use fields::BODY_LIMIT;
 pub use header::HEADER_LIMIT;
+pub use laws::{any_cut, piece_after_piece};
