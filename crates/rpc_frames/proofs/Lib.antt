@@ -3,3 +3,5 @@ pub mod LineLemmas
 pub mod ScanLemmas
 pub mod GrowLemmas
 pub mod StreamLemmas
+pub mod StageLemmas
+pub mod AnswerLemmas

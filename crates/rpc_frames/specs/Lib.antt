@@ -2,3 +2,4 @@ pub mod Lines
 pub mod Fields
 pub mod Frames
 pub mod Stages
+pub mod Fed

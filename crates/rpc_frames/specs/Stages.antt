@@ -52,3 +52,14 @@ EndsLine (Next scan) next rest more whole = (scan.line ≡ next) × (scan.seen �
 EndsLine (Stay (Body from told)) next rest more whole = (from ≡ next) × (whole ≡ spec.Whole told rest)
 EndsLine (Stay (Broken fault)) next rest more whole = whole ≡ spec.Faulty fault
 EndsLine (Stay (Header scan)) next rest more whole = ⊥
+
+-- the fault that a stage has answered
+abbrev pub stage_fault : Stage → Option FrameFault
+stage_fault (Header scan) = None
+stage_fault (Body from told) = None
+stage_fault (Broken fault) = Some fault
+
+-- a fault that was answered is the stage
+abbrev pub KeepsFault : Option FrameFault → Stage → Type 0
+KeepsFault None stage = Unit {0}
+KeepsFault (Some fault) stage = stage ≡ Broken fault

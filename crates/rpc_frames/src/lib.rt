@@ -6,8 +6,10 @@ mod faults;
 mod fields;
 mod header;
 mod laws;
+mod stream;
 
 pub use faults::{FrameFault, FrameStop};
 pub use fields::BODY_LIMIT;
 pub use header::HEADER_LIMIT;
+pub use stream::Frames;
 pub use laws::{any_cut, piece_after_piece};
