@@ -50,9 +50,12 @@ none_some : (o : Option FrameFault) (P : FrameFault → Type 0) → o ≡ None �
 none_some None P e = tt
 none_some (Some fault) P e = cc
 
-again_same : (o : Option FrameFault) (fault : FrameFault) → IfSome o (λ earlier. earlier ≡ fault) → IfSome o (λ earlier. Err {T = Option (List ℕ)} (Fault fault) ≡ Err (Fault earlier))
+abbrev stop : FrameFault → Result (Option (List ℕ)) FrameStop
+stop fault = Err (Fault fault)
+
+again_same : (o : Option FrameFault) (fault : FrameFault) → IfSome o (λ earlier. earlier ≡ fault) → IfSome o (λ earlier. stop fault ≡ stop earlier)
 again_same None fault h = tt
-again_same (Some earlier) fault h = ap (λ f. Err (Fault f)) (sym h)
+again_same (Some earlier) fault h = ap stop (sym h)
 
 pub answers_again : (r : Result (Option (List ℕ)) FrameStop) (old new : Fed) → Answers r old new → IfSome old.fault (λ fault. r ≡ Err (Fault fault))
 answers_again (Ok (Some body)) old new a = none_some old.fault (λ fault. Ok (Some body) ≡ Err (Fault fault)) a.1

@@ -5,3 +5,4 @@ pub mod GrowLemmas
 pub mod StreamLemmas
 pub mod StageLemmas
 pub mod AnswerLemmas
+pub mod WriteLemmas
