@@ -7,6 +7,8 @@ mod fields;
 mod header;
 mod laws;
 mod stream;
+#[cfg(test)]
+mod tests;
 mod writing;
 
 pub use faults::{FrameFault, FrameStop};
