@@ -1,5 +1,5 @@
 -- Answers of a reader of frames.
-use Rattle.std.proofs.Common.{◌≡◌, ℕ, ◌+◌, ◌-◌, ◌<◌, ◌≤◌, Option, Some, None, Result, Ok, Err, List, [], ◌++◌, length, take, drop, refl, sym, ◌∙◌, ap, subst, arith, length-append, length-drop}
+use Rattle.std.proofs.Common.{◌≡◌, ℕ, ◌+◌, ◌-◌, ◌<◌, ◌≤◌, Option, Some, None, Result, Ok, Err, List, length, take, drop, sym, ◌∙◌, ap, subst, arith, length-append, length-drop}
 use Rattle.std.specs.Option.{IfSome}
 use Rattle.std.specs.Result.{IfOk}
 use Rattle.std.proofs.lemmas.List.{drop-drop}
@@ -7,7 +7,7 @@ use Rattle.rpc_frames.specs.declared.faults.FrameFault.{FrameFault}
 use Rattle.rpc_frames.specs.declared.faults.FrameStop.{FrameStop}
 use Rattle.rpc_frames.specs.declared.faults.FrameStop.TheVariants.{Fault, NoMem}
 use Rattle.rpc_frames.specs.declared.header.Stage.{Stage}
-use Rattle.rpc_frames.specs.declared.header.Stage.TheVariants.{Header, Body, Broken}
+use Rattle.rpc_frames.specs.declared.header.Stage.TheVariants.{Header, Broken}
 use Rattle.rpc_frames.specs.declared.header.Scan.{Scan}
 use Rattle.rpc_frames.specs.Frames as spec
 use Rattle.rpc_frames.specs.Stages.{stage_fault, KeepsFault}
@@ -20,11 +20,12 @@ pub body_given : (bytes held body : List ℕ) (from told : ℕ) (new : Fed) → 
     body ≡ take (from + told - from) (drop from held) → new ≡ record { bytes = drop (from + told) bytes; fault = None } → spec.front bytes ≡ spec.Frame body new.bytes
 body_given bytes held body from told new same whole room given left =
     front_whole bytes (drop from bytes) told whole (omega (arith, ap length same, length-drop from bytes))
-      ∙ ap (λ b. spec.Frame b (drop told (drop from bytes))) (sym text) ∙ ap (spec.Frame body) (drop-drop told from bytes ∙ sym (ap (λ (f : Fed). f.bytes) left)) where
-  size : from + told - from ≡ told
-  size = omega arith
-  text : body ≡ take told (drop from bytes)
-  text = given ∙ ap (λ n. take n (drop from held)) size ∙ ap (λ b. take told (drop from b)) same
+    ∙ ap (λ b. spec.Frame b (drop told (drop from bytes))) (sym text) ∙ ap (spec.Frame body) (drop-drop told from bytes ∙ sym (ap (λ (f : Fed). f.bytes) left)) where
+      size : from + told - from ≡ told
+      size = omega arith
+
+      text : body ≡ take told (drop from bytes)
+      text = given ∙ ap (λ n. take n (drop from held)) size ∙ ap (λ b. take told (drop from b)) same
 
 pub whole_is_frame : (bytes held : List ℕ) (from told : ℕ) → held ≡ bytes → spec.header bytes ≡ spec.Whole told (drop from bytes) → told ≤ length held - from → IsFrame (spec.front bytes)
 whole_is_frame bytes held from told same whole room =

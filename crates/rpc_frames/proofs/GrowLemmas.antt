@@ -1,9 +1,9 @@
 -- What more bytes change in the reading of the bytes before them: nothing that was read.
-use Rattle.std.proofs.Common.{◌≡◌, ℕ, ◌+◌, ◌-◌, ◌<◌, ◌≤◌, ◌==◌, ◌&&◌, nat_lt, nat_le, Bool, true, false, cond, Option, Some, None, Result, Ok, Err, List, [], ◌∷◌, ◌++◌, length, take, drop, inl, inr, refl, sym, ◌∙◌, ap, subst, append_assoc, append-nil, arith, length-append}
-use Rattle.std.proofs.lemmas.Bool.{eqb-true, and_parts, ne_eqb, and_left, ltb-false, le-ltb, lt-leb, leb-true, le-leb, cases_Bool}
+use Rattle.std.proofs.Common.{◌≡◌, ℕ, ◌+◌, ◌<◌, ◌≤◌, ◌==◌, ◌&&◌, nat_lt, nat_le, Bool, true, false, cond, Option, Some, None, Result, Ok, Err, List, [], ◌∷◌, ◌++◌, length, take, drop, inl, inr, refl, sym, ◌∙◌, ap, subst, append_assoc, arith, length-append}
+use Rattle.std.proofs.lemmas.Bool.{eqb-true, ne_eqb, and_left, ltb-false, le-ltb, lt-leb, leb-true, le-leb, cases_Bool}
 use Rattle.std.proofs.lemmas.List.{take-append-le, drop-append-le, take-append-drop}
 use Rattle.rpc_frames.specs.declared.faults.FrameFault.{FrameFault}
-use Rattle.rpc_frames.specs.declared.faults.FrameFault.TheVariants.{BadHeader, NoLength}
+use Rattle.rpc_frames.specs.declared.faults.FrameFault.TheVariants.{BadHeader}
 use Rattle.rpc_frames.specs.Lines.{Lines, Line, Open, Stray, is_text, onto, lines}
 use Rattle.rpc_frames.specs.Fields.{line_length}
 use Rattle.rpc_frames.specs.Frames.{Header, Whole, Short, Faulty, ended_header, after_line, header_of, header, Front, Frame, Partial, Broken, front_of, front}
@@ -70,15 +70,15 @@ reaches_one b [] e = subst (Reaches 1) (sym (lines_single b ∙ ap (λ t. cond t
   reaches_none_more : (b : ℕ) → Reaches 1 (Open (b ∷ []))
   reaches_none_more b = omega arith
 reaches_one b (c ∷ more) e = elim (cases_Bool (is_text b)) [
-    inl h ↦ subst (Reaches 1) (sym (lines_cons b (c ∷ more) h)) (reaches_onto b 0 1 (lines (c ∷ more)) (omega arith) (reaches_none (lines (c ∷ more))))
+  | inl h ↦ subst (Reaches 1) (sym (lines_cons b (c ∷ more) h)) (reaches_onto b 0 1 (lines (c ∷ more)) (omega arith) (reaches_none (lines (c ∷ more))))
   | inr h ↦ subst (Reaches 1) (sym (lines_marked b c more h)) (reaches_pair _ more (lines more))
-  ]
+]
 
 single_grows : (b : ℕ) (more : List ℕ) → Grows (b ∷ []) (lines (b ∷ [])) more (lines (b ∷ more))
 single_grows b more = elim (cases_Bool (b == 10)) [
-    inl h ↦ grows_by (b ∷ []) more (lines (b ∷ [])) (lines (b ∷ more)) Stray Stray (lines_single b ∙ ap (λ t. cond t Stray (Open (b ∷ []))) h) (lf_stray b more h) refl
+  | inl h ↦ grows_by (b ∷ []) more (lines (b ∷ [])) (lines (b ∷ more)) Stray Stray (lines_single b ∙ ap (λ t. cond t Stray (Open (b ∷ []))) h) (lf_stray b more h) refl
   | inr h ↦ grows_by (b ∷ []) more (lines (b ∷ [])) (lines (b ∷ more)) (Open (b ∷ [])) (lines (b ∷ more)) (lines_single b ∙ ap (λ t. cond t Stray (Open (b ∷ []))) h) refl (reaches_one b more h)
-  ]
+]
 
 pair_grows : (b c : ℕ) (bytes more : List ℕ) (t : Bool) → Grows bytes (lines bytes) more (lines (bytes ++ more)) →
     Grows (b ∷ c ∷ bytes) (cond t (Line [] bytes (lines bytes)) Stray) more (cond t (Line [] (bytes ++ more) (lines (bytes ++ more))) Stray)
@@ -92,8 +92,8 @@ lines_grow (b ∷ c ∷ bytes) more =
     let one = lines_grow (c ∷ bytes) more in
     let two = lines_grow bytes more in
     elim (cases_Bool (is_text b)) [
-      inl h ↦ grows_by (b ∷ c ∷ bytes) more _ _ _ _ (lines_cons b (c ∷ bytes) h) (lines_cons b (c ∷ bytes ++ more) h) (grows_onto b (c ∷ bytes) (lines (c ∷ bytes)) more (lines (c ∷ bytes ++ more)) one)
-    | inr h ↦ grows_by (b ∷ c ∷ bytes) more _ _ _ _ (lines_marked b c bytes h) (lines_marked b c (bytes ++ more) h) (pair_grows b c bytes more ((b == 13) && (c == 10)) two)
+      | inl h ↦ grows_by (b ∷ c ∷ bytes) more _ _ _ _ (lines_cons b (c ∷ bytes) h) (lines_cons b (c ∷ bytes ++ more) h) (grows_onto b (c ∷ bytes) (lines (c ∷ bytes)) more (lines (c ∷ bytes ++ more)) one)
+      | inr h ↦ grows_by (b ∷ c ∷ bytes) more _ _ _ _ (lines_marked b c bytes h) (lines_marked b c (bytes ++ more) h) (pair_grows b c bytes more ((b == 13) && (c == 10)) two)
     ]
 
 -- a line that is too long for the header part
@@ -134,16 +134,16 @@ header_open bytes more false k f = f refl
 header_of_grows : (ls : Lines) (bytes more : List ℕ) (longer : Lines) (taken : ℕ) (told : Option ℕ) → Grows bytes ls more longer → HeaderGrows bytes (header_of taken told ls) more (header_of taken told longer)
 header_of_grows (Line [] rest later) bytes more longer taken told g =
     subst (λ l. HeaderGrows bytes (header_of taken told (Line [] rest later)) more (header_of taken told l)) (sym g.1)
-      (header_cond bytes more (nat_le (taken + 2) 4096) (ended_header told rest) (ended_header told (rest ++ more)) (header_ended bytes rest more told g.2))
+    (header_cond bytes more (nat_le (taken + 2) 4096) (ended_header told rest) (ended_header told (rest ++ more)) (header_ended bytes rest more told g.2))
 header_of_grows (Line (b ∷ text) rest later) bytes more longer taken told g =
     let next = taken + length (b ∷ text) + 2 in
     subst (λ l. HeaderGrows bytes (header_of taken told (Line (b ∷ text) rest later)) more (header_of taken told l)) (sym g.1)
-      (header_cond bytes more (nat_lt next 4096) _ _
-        (header_after bytes more (line_length told (b ∷ text)) (λ known. header_of next known later) (λ known. header_of next known g.0)
-          (λ known. header_from bytes rest more (header_of next known later) (header_of next known g.0) g.2 (header_of_grows later rest more g.0 next known g.3))))
+    (header_cond bytes more (nat_lt next 4096) _ _
+    (header_after bytes more (line_length told (b ∷ text)) (λ known. header_of next known later) (λ known. header_of next known g.0)
+    (λ known. header_from bytes rest more (header_of next known later) (header_of next known g.0) g.2 (header_of_grows later rest more g.0 next known g.3))))
 header_of_grows (Open text) bytes more longer taken told g =
     header_open bytes more (nat_lt (taken + length text) 4096) (header_of taken told longer)
-      (λ e. header_full (length text) taken told longer g (ltb-false (taken + length text) 4096 e))
+    (λ e. header_full (length text) taken told longer g (ltb-false (taken + length text) 4096 e))
 header_of_grows Stray bytes more longer taken told g = ap (header_of taken told) g
 
 -- a header part that is read, or its fault, stays the same whatever follows the bytes
@@ -167,11 +167,12 @@ body_grows : (bytes rest more : List ℕ) (told : ℕ) (t : Bool) → nat_le tol
     FrontGrows bytes (cond t (Frame (take told rest) (drop told rest)) Partial) more (front_of (Whole told (rest ++ more)))
 body_grows bytes rest more told true e after =
     let within : told ≤ length rest = leb-true told (length rest) e in
-    let enough : nat_le told (length (rest ++ more)) ≡ true = le-leb told (length (rest ++ more)) (omega (arith, length-append rest more)) in
-    (ap (λ t. cond t (Frame (take told (rest ++ more)) (drop told (rest ++ more))) Partial) enough
-       ∙ ap (λ body. Frame body (drop told (rest ++ more))) (take-append-le told rest more within)
-       ∙ ap (Frame (take told rest)) (drop-append-le told rest more within),
-     after_body bytes rest told after)
+    let enough : nat_le told (length (rest ++ more)) ≡ true = le-leb told (length (rest ++ more)) (omega (arith, length-append rest more)) in (
+      ap (λ t. cond t (Frame (take told (rest ++ more)) (drop told (rest ++ more))) Partial) enough
+          ∙ ap (λ body. Frame body (drop told (rest ++ more))) (take-append-le told rest more within)
+          ∙ ap (Frame (take told rest)) (drop-append-le told rest more within),
+      after_body bytes rest told after,
+    )
 body_grows bytes rest more told false e after = tt
 
 front_of_grows : (bytes more : List ℕ) (h k : Header) → HeaderGrows bytes h more k → FrontGrows bytes (front_of h) more (front_of k)

@@ -1,9 +1,9 @@
 -- Bytes and their lines.
-use Rattle.std.proofs.Common.{◌≡◌, ℕ, ◌+◌, ◌==◌, ◌&&◌, ◌||◌, not, Bool, true, false, cond, List, [], ◌∷◌, ◌++◌, length, drop, refl, sym, ◌∙◌, ap, append_assoc, arith}
+use Rattle.std.proofs.Common.{◌≡◌, ℕ, ◌+◌, ◌==◌, ◌&&◌, ◌||◌, not, Bool, true, false, cond, List, [], ◌∷◌, ◌++◌, drop, refl, sym, ◌∙◌, ap, arith}
 use Rattle.std.specs.List.{list_all, prefix_len}
-use Rattle.std.proofs.lemmas.Bool.{not-true, not-false, or_parts, or_cases, and_parts, eqb-true, ne_eqb}
+use Rattle.std.proofs.lemmas.Bool.{not-true, or_parts, and_parts, eqb-true, ne_eqb}
 use Rattle.rpc_frames.specs.declared.header.Ending.TheVariants.{Missing, Stray as StrayByte, End}
-use Rattle.rpc_frames.specs.Lines.{Lines, Line, Open, Stray, is_text, is_mark, onto, lines}
+use Rattle.rpc_frames.specs.Lines.{Lines, Line, Open, Stray, is_text, onto, lines}
 use Rattle.rpc_frames.specs.Stages.{ending_of}
 
 pub onto-nil : (ls : Lines) → onto [] ls ≡ ls

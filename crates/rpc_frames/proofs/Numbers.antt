@@ -1,5 +1,5 @@
 -- Numbers that stop at a cap.
-use Rattle.std.proofs.Common.{◌≡◌, ℕ, ◌+◌, ◌*◌, ◌-◌, ◌<◌, min, List, [], ◌∷◌, length, get_or, drop, refl, arith}
+use Rattle.std.proofs.Common.{◌≡◌, ℕ, ◌+◌, ◌*◌, ◌-◌, ◌<◌, min, List, [], ◌∷◌, length, get_or, drop, arith}
 use Rattle.std.proofs.lemmas.List.{drop_more}
 use Rattle.rpc_frames.specs.Fields.{number_after}
 
@@ -15,4 +15,4 @@ number_after_capped a b (d ∷ digits) e = number_after_capped (10 * a + (d - 48
 pub capped_more : (n m : ℕ) (digits : List ℕ) (i : ℕ) → i < length digits → m ≡ min (10 * n + (get_or digits i 0 - 48)) 4194305 → min (number_after m (drop (i + 1) digits)) 4194305 ≡ min (number_after n (drop i digits)) 4194305
 capped_more n m digits i h e =
     rw (drop_more digits i 0 h)
-      (number_after_capped m (10 * n + (get_or digits i 0 - 48)) (drop (i + 1) digits) (omega arith))
+    (number_after_capped m (10 * n + (get_or digits i 0 - 48)) (drop (i + 1) digits) (omega arith))

@@ -1,9 +1,9 @@
 -- How a scan of a header part goes on.
-use Rattle.std.proofs.Common.{◌≡◌, ℕ, ◌+◌, ◌-◌, ◌<◌, ◌≤◌, suc, nat_lt, Bool, true, false, cond, Some, None, List, [], ◌∷◌, ◌++◌, length, take, drop, refl, sym, ◌∙◌, ap, subst, append_assoc, append-nil, arith, length-drop}
+use Rattle.std.proofs.Common.{◌≡◌, ℕ, ◌+◌, ◌-◌, ◌<◌, ◌≤◌, suc, nat_lt, Bool, true, false, cond, List, [], ◌∷◌, ◌++◌, length, take, drop, refl, sym, ◌∙◌, ap, subst, append_assoc, append-nil, arith, length-drop}
 use Rattle.std.specs.List.{list_all, prefix_len}
 use Rattle.std.proofs.Math.Seq.{take-add}
 use Rattle.std.proofs.lemmas.Bool.{and_from, lt-ltb, le-ltb}
-use Rattle.std.proofs.lemmas.List.{drop-drop, take-append-drop, length-take-le, drop-append-le}
+use Rattle.std.proofs.lemmas.List.{drop-drop, take-append-drop, length-take-le}
 use Rattle.std.proofs.lemmas.List.Folds.{list_all-append}
 use Rattle.std.proofs.lemmas.List.Sums.{prefix_len-le-length}
 use Rattle.rpc_frames.specs.declared.faults.FrameFault.TheVariants.{BadHeader}
@@ -12,7 +12,7 @@ use Rattle.rpc_frames.specs.declared.header.Step.{Step}
 use Rattle.rpc_frames.specs.declared.header.Step.TheVariants.{Next, Stay}
 use Rattle.rpc_frames.specs.declared.header.Stage.TheVariants.{Header, Body, Broken}
 use Rattle.rpc_frames.specs.declared.header.Ending.TheVariants.{Missing, Stray as StrayByte, End}
-use Rattle.rpc_frames.specs.Lines.{Lines, Line, Open, Stray, is_text, onto, lines}
+use Rattle.rpc_frames.specs.Lines.{Lines, Line, Open, is_text, onto, lines}
 use Rattle.rpc_frames.specs.Frames.{header, header_of, Short, Whole, Faulty}
 use Rattle.rpc_frames.specs.Stages.{IsScan, seen_text, ending_of, ReadsLine, EndsLine}
 use Rattle.rpc_frames.proofs.LineLemmas.{lines_text, lines_missing, lines_stray, lines_end}
@@ -47,10 +47,10 @@ scan_text scan bytes n is e = record {
   from = omega (arith, is.from);
   within = omega (arith, is.within, prefix_len-le-length is_text (drop scan.seen bytes), length-drop scan.seen bytes);
   text =
-    let more : list_all is_text (take n (drop scan.seen bytes)) ≡ true = ap (λ m. list_all is_text (take m (drop scan.seen bytes))) e ∙ front_passes is_text (drop scan.seen bytes) in
-    let there : list_all is_text (take n (drop (scan.seen - scan.line) (drop scan.line bytes))) ≡ true = ap (λ d. list_all is_text (take n d)) (drop_from bytes scan.line scan.seen is.from) ∙ more in
-    let sum : scan.seen + n - scan.line ≡ scan.seen - scan.line + n = omega (arith, is.from) in
-    ap (λ m. list_all is_text (take m (drop scan.line bytes))) sum ∙ passes_on is_text (drop scan.line bytes) (scan.seen - scan.line) n is.text there;
+      let more : list_all is_text (take n (drop scan.seen bytes)) ≡ true = ap (λ m. list_all is_text (take m (drop scan.seen bytes))) e ∙ front_passes is_text (drop scan.seen bytes) in
+      let there : list_all is_text (take n (drop (scan.seen - scan.line) (drop scan.line bytes))) ≡ true = ap (λ d. list_all is_text (take n d)) (drop_from bytes scan.line scan.seen is.from) ∙ more in
+      let sum : scan.seen + n - scan.line ≡ scan.seen - scan.line + n = omega (arith, is.from) in
+      ap (λ m. list_all is_text (take m (drop scan.line bytes))) sum ∙ passes_on is_text (drop scan.line bytes) (scan.seen - scan.line) n is.text there;
   reads = is.reads;
 }
 
@@ -72,7 +72,7 @@ here scan bytes is = ap header (sym (append-nil bytes)) ∙ is.reads [] ∙ ap (
 open_header : (scan : Scan) (bytes : List ℕ) → IsScan scan bytes → ending_of (drop scan.seen bytes) ≡ Missing → header bytes ≡ cond (nat_lt (length bytes) 4096) Short (Faulty BadHeader)
 open_header scan bytes is e =
     let open_line : lines (drop scan.line bytes) ≡ Open (drop scan.line bytes) =
-      line_lines scan bytes is ∙ ap (onto (seen_text scan bytes)) (lines_missing (drop scan.seen bytes) e) ∙ ap Open (line_parts scan bytes is) in
+    line_lines scan bytes is ∙ ap (onto (seen_text scan bytes)) (lines_missing (drop scan.seen bytes) e) ∙ ap Open (line_parts scan bytes is) in
     let size : scan.line + length (drop scan.line bytes) ≡ length bytes = omega (arith, is.from, is.within, length-drop scan.line bytes) in
     here scan bytes is ∙ ap (header_of scan.line scan.told) open_line ∙ ap (λ n. cond (nat_lt n 4096) Short (Faulty BadHeader)) size
 
@@ -92,9 +92,9 @@ scan_end scan bytes is e more =
     let parts : drop scan.line bytes ++ more ≡ seen_text scan bytes ++ (drop scan.seen bytes ++ more) = ap (λ d. d ++ more) (sym (line_parts scan bytes is)) ∙ append_assoc (seen_text scan bytes) (drop scan.seen bytes) more in
     let after : drop 2 (drop scan.seen bytes) ≡ drop (scan.seen + 2) bytes = drop-drop 2 scan.seen bytes in
     let ends : lines (drop scan.seen bytes ++ more) ≡ Line [] (drop (scan.seen + 2) bytes ++ more) (lines (drop (scan.seen + 2) bytes ++ more)) =
-      lines_end (drop scan.seen bytes) more e ∙ ap (λ d. Line [] (d ++ more) (lines (d ++ more))) after in
+    lines_end (drop scan.seen bytes) more e ∙ ap (λ d. Line [] (d ++ more) (lines (d ++ more))) after in
     let whole : lines (drop scan.line bytes ++ more) ≡ Line (seen_text scan bytes) (drop (scan.seen + 2) bytes ++ more) (lines (drop (scan.seen + 2) bytes ++ more)) =
-      ap lines parts ∙ lines_text (seen_text scan bytes) (drop scan.seen bytes ++ more) is.text ∙ ap (onto (seen_text scan bytes)) ends ∙ ap (λ t. Line t (drop (scan.seen + 2) bytes ++ more) (lines (drop (scan.seen + 2) bytes ++ more))) (append-nil (seen_text scan bytes)) in
+    ap lines parts ∙ lines_text (seen_text scan bytes) (drop scan.seen bytes ++ more) is.text ∙ ap (onto (seen_text scan bytes)) ends ∙ ap (λ t. Line t (drop (scan.seen + 2) bytes ++ more) (lines (drop (scan.seen + 2) bytes ++ more))) (append-nil (seen_text scan bytes)) in
     is.reads more ∙ ap (header_of scan.line scan.told) whole
 
 end_size : (rest : List ℕ) → ending_of rest ≡ End → 2 ≤ length rest
@@ -111,24 +111,29 @@ pub scan_line : (scan : Scan) (bytes : List ℕ) (step : Step) → IsScan scan b
 scan_line scan bytes step is e led = by step (λ rest more. subst (λ n. EndsLine step n rest more (header_of scan.line scan.told (Line (seen_text scan bytes) rest more))) size (led rest more)) where
   size : scan.line + length (seen_text scan bytes) + 2 ≡ scan.seen + 2
   size = omega (arith, is.from, is.within, length-drop scan.line bytes, length-take-le (scan.seen - scan.line) (drop scan.line bytes) (omega (arith, is.from, is.within, length-drop scan.line bytes)))
+
   room : scan.seen + 2 ≤ length bytes
   room = omega (arith, end_size (drop scan.seen bytes) e, length-drop scan.seen bytes)
+
   now : header bytes ≡ header_of scan.line scan.told (Line (seen_text scan bytes) (drop (scan.seen + 2) bytes) (lines (drop (scan.seen + 2) bytes)))
   now = ap header (sym (append-nil bytes)) ∙ scan_end scan bytes is e [] ∙ ap (λ d. header_of scan.line scan.told (Line (seen_text scan bytes) d (lines d))) (append-nil (drop (scan.seen + 2) bytes))
+
   by : (s : Step) → ((rest : List ℕ) (more : Lines) → EndsLine s (scan.seen + 2) rest more (header_of scan.line scan.told (Line (seen_text scan bytes) rest more))) → ReadsLine s scan bytes
   by (Next next) f =
-    let first = f [] (Open []) in
-    (record {
-      from = omega (arith, first.0, first.1);
-      within = omega (arith, first.1, room);
-      text = ap (λ n. list_all is_text (take n (drop next.line bytes))) (empty next first.0 first.1);
-      reads = λ more. scan_end scan bytes is e more ∙ (f (drop (scan.seen + 2) bytes ++ more) (lines (drop (scan.seen + 2) bytes ++ more))).2
-        ∙ ap (λ n. header_of n next.told (lines (drop n bytes ++ more))) (sym first.0);
-    }, omega (arith, first.0, is.from)) where
-      empty : (next : Scan) → next.line ≡ scan.seen + 2 → next.seen ≡ scan.seen + 2 → next.seen - next.line ≡ 0
-      empty next a b = omega arith
+      let first = f [] (Open []) in (
+        record {
+          from = omega (arith, first.0, first.1);
+          within = omega (arith, first.1, room);
+          text = ap (λ n. list_all is_text (take n (drop next.line bytes))) (empty next first.0 first.1);
+          reads = λ more. scan_end scan bytes is e more ∙ (f (drop (scan.seen + 2) bytes ++ more) (lines (drop (scan.seen + 2) bytes ++ more))).2
+              ∙ ap (λ n. header_of n next.told (lines (drop n bytes ++ more))) (sym first.0);
+        },
+        omega (arith, first.0, is.from),
+      ) where
+        empty : (next : Scan) → next.line ≡ scan.seen + 2 → next.seen ≡ scan.seen + 2 → next.seen - next.line ≡ 0
+        empty next a b = omega arith
   by (Stay (Body from told)) f =
-    let first = f (drop (scan.seen + 2) bytes) (lines (drop (scan.seen + 2) bytes)) in
-    (omega (arith, first.0, room), now ∙ first.1 ∙ ap (λ n. Whole told (drop n bytes)) (sym first.0))
+      let first = f (drop (scan.seen + 2) bytes) (lines (drop (scan.seen + 2) bytes)) in
+      (omega (arith, first.0, room), now ∙ first.1 ∙ ap (λ n. Whole told (drop n bytes)) (sym first.0))
   by (Stay (Broken fault)) f = now ∙ f (drop (scan.seen + 2) bytes) (lines (drop (scan.seen + 2) bytes))
   by (Stay (Header other)) f = absurd (f [] (Open []))

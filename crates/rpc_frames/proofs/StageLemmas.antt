@@ -1,5 +1,5 @@
 -- Stages of the reading of bytes, when more bytes come and at the bytes' front.
-use Rattle.std.proofs.Common.{◌≡◌, ℕ, ◌+◌, ◌-◌, ◌<◌, ◌≤◌, nat_le, Bool, true, false, cond, Option, Some, None, List, [], ◌∷◌, ◌++◌, length, take, drop, refl, sym, ◌∙◌, ap, subst, append_assoc, arith, length-append, length-drop}
+use Rattle.std.proofs.Common.{◌≡◌, ℕ, ◌-◌, ◌<◌, ◌≤◌, cond, Option, Some, None, List, ◌++◌, length, take, drop, refl, sym, ◌∙◌, ap, subst, append_assoc, arith, length-append, length-drop}
 use Rattle.std.specs.List.{list_all}
 use Rattle.std.proofs.lemmas.Bool.{le-leb, lt-leb}
 use Rattle.std.proofs.lemmas.List.{take-append-le, drop-append-le}
@@ -18,20 +18,22 @@ scan_more scan bytes more is = record {
   within = omega (arith, is.within, length-append bytes more);
   text = ap (list_all is_text) same_text ∙ is.text;
   reads = λ rest. ap spec.header (append_assoc bytes more rest) ∙ is.reads (more ++ rest)
-    ∙ ap (λ d. spec.header_of scan.line scan.told (lines d)) (sym (append_assoc (drop scan.line bytes) more rest) ∙ ap (λ d. d ++ rest) (sym line));
+      ∙ ap (λ d. spec.header_of scan.line scan.told (lines d)) (sym (append_assoc (drop scan.line bytes) more rest) ∙ ap (λ d. d ++ rest) (sym line));
 } where
   line : drop scan.line (bytes ++ more) ≡ drop scan.line bytes ++ more
   line = drop-append-le scan.line bytes more (omega (arith, is.from, is.within))
+
   same_text : seen_text scan (bytes ++ more) ≡ seen_text scan bytes
   same_text = ap (take (scan.seen - scan.line)) line
-    ∙ take-append-le (scan.seen - scan.line) (drop scan.line bytes) more (omega (arith, is.from, is.within, length-drop scan.line bytes))
+      ∙ take-append-le (scan.seen - scan.line) (drop scan.line bytes) more (omega (arith, is.from, is.within, length-drop scan.line bytes))
 
 -- what was read stays so when more bytes come
 pub stage_more : (stage : Stage) (bytes more : List ℕ) → IsStage stage bytes → IsStage stage (bytes ++ more)
 stage_more (Header scan) bytes more is = scan_more scan bytes more is
-stage_more (Body from told) bytes more is =
-    (omega (arith, is.0, length-append bytes more),
-     (subst (λ h. HeaderGrows bytes h more (spec.header (bytes ++ more))) is.1 (header_grows bytes more)).0 ∙ ap (spec.Whole told) (sym (drop-append-le from bytes more is.0)))
+stage_more (Body from told) bytes more is = (
+  omega (arith, is.0, length-append bytes more),
+  (subst (λ h. HeaderGrows bytes h more (spec.header (bytes ++ more))) is.1 (header_grows bytes more)).0 ∙ ap (spec.Whole told) (sym (drop-append-le from bytes more is.0)),
+)
 stage_more (Broken fault) bytes more is = subst (λ h. HeaderGrows bytes h more (spec.header (bytes ++ more))) is (header_grows bytes more)
 
 pub front_short : (bytes : List ℕ) → spec.header bytes ≡ spec.Short → spec.front bytes ≡ spec.Partial
@@ -61,6 +63,7 @@ no_fault_body (Some fault) from told k = cc
 
 -- after a piece
 pub fed_stage : (start : ℕ) (stage : Stage) (items piece grown : List ℕ) → start ≤ length items → IsStage stage (drop start items) → grown ≡ items ++ piece → (start ≤ length grown) × IsStage stage (drop start grown)
-fed_stage start stage items piece grown within is e =
-    (omega (arith, ap length e, within, length-append items piece),
-     subst (IsStage stage) (sym (ap (drop start) e ∙ drop-append-le start items piece within)) (stage_more stage (drop start items) piece is))
+fed_stage start stage items piece grown within is e = (
+  omega (arith, ap length e, within, length-append items piece),
+  subst (IsStage stage) (sym (ap (drop start) e ∙ drop-append-le start items piece within)) (stage_more stage (drop start items) piece is),
+)

@@ -1,11 +1,10 @@
 -- Frames one after another, and in pieces.
-use Rattle.std.proofs.Common.{◌≡◌, ℕ, ◌+◌, ◌-◌, ◌<◌, ◌≤◌, zero, suc, List, [], ◌∷◌, ◌++◌, length, drop, refl, sym, ◌∙◌, ap, subst, append_assoc, append-nil, arith, length-append}
+use Rattle.std.proofs.Common.{◌≡◌, ℕ, ◌-◌, ◌<◌, ◌≤◌, zero, suc, List, [], ◌∷◌, ◌++◌, length, drop, refl, sym, ◌∙◌, ap, subst, append_assoc, append-nil, arith, length-append}
 use Rattle.std.specs.List.{concat}
-use Rattle.std.proofs.lemmas.List.{drop_at, drop_all}
+use Rattle.std.proofs.lemmas.List.{drop_at}
 use Rattle.rpc_frames.specs.declared.faults.FrameFault.{FrameFault}
 use Rattle.rpc_frames.specs.Lines.{lines}
-use Rattle.rpc_frames.specs.Frames.{Front, Frame, Partial, Broken, front, Stream, End, Rest, Fault, ended, with_body, stream_of, frames_after, frames, with_bodies, end_goes_on, goes_on, after_pieces}
-use Rattle.rpc_frames.proofs.LineLemmas.{lines_none}
+use Rattle.rpc_frames.specs.Frames.{Front, Frame, Partial, Broken, front, Stream, Rest, Fault, ended, with_body, stream_of, frames_after, frames, with_bodies, end_goes_on, goes_on, after_pieces}
 use Rattle.rpc_frames.proofs.GrowLemmas.{IsAfter, FrontGrows, front_grows}
 
 pub front_none : front [] ≡ Partial
@@ -39,9 +38,9 @@ after_drop b bytes rest after = by after.before after.parts after.some where
   by : (before : List ℕ) → b ∷ bytes ≡ before ++ rest → 0 < length before → drop (length bytes - length rest) bytes ≡ rest
   by [] e h = absurd (omega arith)
   by (c ∷ before) e h =
-    let same : bytes ≡ before ++ rest = cc in
-    let size : length bytes - length rest ≡ length before = omega (arith, ap length same, length-append before rest) in
-    ap (λ n. drop n bytes) size ∙ ap (drop (length before)) same ∙ drop_at before rest (length before) refl
+      let same : bytes ≡ before ++ rest = cc in
+      let size : length bytes - length rest ≡ length before = omega (arith, ap length same, length-append before rest) in
+      ap (λ n. drop n bytes) size ∙ ap (drop (length before)) same ∙ drop_at before rest (length before) refl
 
 -- a frame's body is the first of the stream, and the bytes after the frame give the others
 pub frames_frame : (bytes body rest : List ℕ) → front bytes ≡ Frame body rest → frames bytes ≡ with_body body (frames rest)
@@ -50,7 +49,7 @@ frames_frame [] body rest e = absurd (never (sym front_none ∙ e)) where
   never h = cc
 frames_frame (b ∷ bytes) body rest e =
     frames_step b bytes ∙ ap (λ f. stream_of f (b ∷ bytes) (λ r. frames (drop (length bytes - length r) bytes))) e
-      ∙ ap (λ d. with_body body (frames d)) (after_drop b bytes rest (after_frame (b ∷ bytes) body rest e))
+    ∙ ap (λ d. with_body body (frames d)) (after_drop b bytes rest (after_frame (b ∷ bytes) body rest e))
 
 pub frames_partial : (bytes : List ℕ) → front bytes ≡ Partial → frames bytes ≡ ended (Rest bytes)
 frames_partial [] e = frames_none
@@ -77,9 +76,9 @@ go_on_within zero bytes more h = none bytes h where
 go_on_within (suc k) bytes more h = by (front bytes) refl (λ rest l. go_on_within k rest more l) where
   by : (f : Front) → front bytes ≡ f → ((rest : List ℕ) → length rest ≤ k → frames (rest ++ more) ≡ goes_on (frames rest) more) → frames (bytes ++ more) ≡ goes_on (frames bytes) more
   by (Frame body rest) e go =
-    let after = after_frame bytes body rest e in
-    let shorter : length rest ≤ k = omega (arith, h, after.some, ap length after.parts, length-append after.before rest) in
-    frames_frame (bytes ++ more) body (rest ++ more) (frame_more bytes more body rest e) ∙ ap (with_body body) (go rest shorter)
+      let after = after_frame bytes body rest e in
+      let shorter : length rest ≤ k = omega (arith, h, after.some, ap length after.parts, length-append after.before rest) in
+      frames_frame (bytes ++ more) body (rest ++ more) (frame_more bytes more body rest e) ∙ ap (with_body body) (go rest shorter)
       ∙ ap (λ s. goes_on s more) (sym (frames_frame bytes body rest e))
   by Partial e go = ap (λ s. goes_on s more) (sym (frames_partial bytes e))
   by (Broken fault) e go = frames_broken (bytes ++ more) fault (broken_more bytes more fault e) ∙ ap (λ s. goes_on s more) (sym (frames_broken bytes fault e))
@@ -92,9 +91,9 @@ frames_go_on bytes more = go_on_within (length bytes) bytes more (omega arith)
 pub held_more : (given : List (List ℕ)) (held fed piece : List ℕ) → with_bodies given (frames held) ≡ frames fed → with_bodies given (frames (held ++ piece)) ≡ frames (fed ++ piece)
 held_more given held fed piece e =
     ap (with_bodies given) (frames_go_on held piece)
-      ∙ moved (frames held) ∙ ap (λ s. goes_on s piece) e ∙ sym (frames_go_on fed piece) where
-  moved : (s : Stream) → with_bodies given (goes_on s piece) ≡ goes_on (with_bodies given s) piece
-  moved s = ap (λ bodies. record { bodies = bodies; end = (end_goes_on s.end piece).end }) (sym (append_assoc given s.bodies (end_goes_on s.end piece).bodies))
+    ∙ moved (frames held) ∙ ap (λ s. goes_on s piece) e ∙ sym (frames_go_on fed piece) where
+      moved : (s : Stream) → with_bodies given (goes_on s piece) ≡ goes_on (with_bodies given s) piece
+      moved s = ap (λ bodies. record { bodies = bodies; end = (end_goes_on s.end piece).end }) (sym (append_assoc given s.bodies (end_goes_on s.end piece).bodies))
 
 pieces_from : (bytes : List ℕ) (pieces : List (List ℕ)) → after_pieces (frames bytes) pieces ≡ frames (bytes ++ concat pieces)
 pieces_from bytes [] = ap frames (sym (append-nil bytes))

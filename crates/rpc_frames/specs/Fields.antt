@@ -1,5 +1,5 @@
 -- Header lines, and the length that one of them gives.
-use Rattle.std.specs.Prelude.{ℕ, ◌+◌, ◌*◌, ◌-◌, Bool, ◌==◌, nat_le, Option, None, Some, Result, Ok, Err, List, [], ◌∷◌, length, take, drop, map, codes, if◌then◌else◌}
+use Rattle.std.specs.Prelude.{ℕ, ◌+◌, ◌*◌, ◌-◌, Bool, ◌==◌, nat_le, Option, None, Some, Result, Ok, Err, List, [], ◌∷◌, take, drop, map, codes, if◌then◌else◌}
 use Rattle.std.specs.Char.{is_ascii_digit, to_ascii_lowercase}
 use Rattle.std.specs.List.{prefix_len, position, list_all}
 use Rattle.std.specs.Str.{bytes_eq}

@@ -1,5 +1,5 @@
 -- The frames of a stream of bytes: header lines, an empty line, and a body of the told length.
-use Rattle.std.specs.Prelude.{◌≡◌, ℕ, ◌+◌, ◌-◌, zero, suc, nat_le, nat_lt, Option, None, Some, Result, Ok, Err, List, [], ◌∷◌, ◌++◌, length, take, drop, codes, if◌then◌else◌}
+use Rattle.std.specs.Prelude.{ℕ, ◌+◌, ◌-◌, zero, suc, nat_le, nat_lt, Option, None, Some, Result, Ok, Err, List, [], ◌∷◌, ◌++◌, length, take, drop, codes, if◌then◌else◌}
 use Rattle.std.specs.Fmt.{decimal}
 use Rattle.rpc_frames.specs.declared.faults.FrameFault.{FrameFault}
 use Rattle.rpc_frames.specs.declared.faults.FrameFault.TheVariants.{NoLength, BadHeader}

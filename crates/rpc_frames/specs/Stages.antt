@@ -1,6 +1,6 @@
 -- How far the reading of a header part has come.
-use Rattle.std.specs.Prelude.{◌≡◌, ℕ, ◌+◌, ◌-◌, ◌<◌, ◌≤◌, Bool, true, ◌==◌, ◌&&◌, Option, None, Some, List, [], ◌∷◌, ◌++◌, length, take, drop, if◌then◌else◌}
-use Rattle.std.specs.List.{list_all, prefix_len}
+use Rattle.std.specs.Prelude.{◌≡◌, ℕ, ◌-◌, ◌<◌, ◌≤◌, true, ◌==◌, ◌&&◌, Option, None, Some, List, [], ◌∷◌, ◌++◌, length, take, drop, if◌then◌else◌}
+use Rattle.std.specs.List.{list_all}
 use Rattle.rpc_frames.specs.declared.faults.FrameFault.{FrameFault}
 use Rattle.rpc_frames.specs.declared.header.Scan.{Scan}
 use Rattle.rpc_frames.specs.declared.header.Stage.{Stage}
@@ -9,7 +9,7 @@ use Rattle.rpc_frames.specs.declared.header.Step.{Step}
 use Rattle.rpc_frames.specs.declared.header.Step.TheVariants.{Next, Stay}
 use Rattle.rpc_frames.specs.declared.header.Ending.{Ending}
 use Rattle.rpc_frames.specs.declared.header.Ending.TheVariants.{Missing, Stray, End}
-use Rattle.rpc_frames.specs.Lines.{Lines, Line, is_text, lines}
+use Rattle.rpc_frames.specs.Lines.{Lines, is_text, lines}
 use Rattle.rpc_frames.specs.Frames as spec
 
 -- what the bytes after a line's text begin with

@@ -81,7 +81,11 @@ fn end_line(taken: usize, told: Option<u32>, text: &[u8]) -> Step
         ([], Some(length)) => Step::Stay(Stage::Body(next, length)),
         _ if next >= HEADER_LIMIT => Step::Stay(Stage::Broken(FrameFault::BadHeader)),
         _ => match read_field(told, text) {
-            Ok(told) => Step::Next(Scan { line: next, seen: next, told }),
+            Ok(told) => Step::Next(Scan {
+                line: next,
+                seen: next,
+                told,
+            }),
             Err(fault) => Step::Stay(Stage::Broken(fault)),
         },
     }

@@ -6,25 +6,21 @@ ghost use Rattle.rpc_frames.specs.Frames.{Frame, front, frames, framed, with_bod
 /// However a stream is cut into pieces, its bodies and its end are those of all its bytes.
 pub fn any_cut()
     ensures { (pieces : List (List ℕ)) → after_pieces (frames []) pieces ≡ frames (concat pieces) }
-{
-}
+{}
 
 /// Where the bodies given and then the frames of the bytes held are the frames of all bytes fed, they
 /// are so after the next piece too.
 pub fn piece_after_piece()
     ensures { (given : List (List ℕ)) (held fed piece : List ℕ) → with_bodies given (frames held) ≡ frames fed → with_bodies given (frames (held ++ piece)) ≡ frames (fed ++ piece) }
-{
-}
+{}
 
 /// Reading what `write_frame` gives for a body of at most 4,194,304 bytes gives the body back, and
 /// then what follows the frame.
 pub fn reads_what_is_written()
     ensures { (body rest : List ℕ) → length body ≤ 4194304 → front (framed body ++ rest) ≡ Frame body rest }
-{
-}
+{}
 
 /// So the frames of bodies that are written one after another are those bodies.
 pub fn reads_all_that_is_written()
     ensures { (bodies : List (List ℕ)) (rest : List ℕ) → All (λ body. length body ≤ 4194304) bodies → frames (flat_map framed bodies ++ rest) ≡ with_bodies bodies (frames rest) }
-{
-}
+{}

@@ -88,12 +88,21 @@ fn check<R: Abort + AllocGlobal>(
 ) -> Result<(), NoMem> {
     let run = by_bytes(rt.alloc(), bytes)?;
     let text = bytes.escape_ascii().to_string(rt.alloc())?;
-    assert!(rt; run.bodies.as_slice() == bodies.as_bytes(), "bodies of {text}");
+    assert!(rt;
+        run.bodies.as_slice() == bodies.as_bytes(),
+        "bodies of {text}"
+    );
     assert!(rt; run.fault == fault, "fault of {text}");
     for at in bytes.len().saturating_sub(cuts)..bytes.len() {
         let run = cut_at(rt.alloc(), bytes, at)?;
-        assert!(rt; run.bodies.as_slice() == bodies.as_bytes(), "bodies of {text} cut at {at}");
-        assert!(rt; run.fault.map(|f| f.0) == fault.map(|f| f.0), "fault of {text} cut at {at}");
+        assert!(rt;
+            run.bodies.as_slice() == bodies.as_bytes(),
+            "bodies of {text} cut at {at}"
+        );
+        assert!(rt;
+            run.fault.map(|f| f.0) == fault.map(|f| f.0),
+            "fault of {text} cut at {at}"
+        );
     }
     Ok(())
 }
@@ -104,15 +113,33 @@ fn check_long<R: Abort + AllocGlobal>(rt: &R) -> Result<(), NoMem> {
     most.extend_from_slice(b"{}")?;
     check(rt, most.as_slice(), "{}|", None, 24)?;
     let over = header_part(rt.alloc(), length, 4097)?;
-    check(rt, over.as_slice(), "", Some((FrameFault::BadHeader, 4096)), 24)?;
+    check(
+        rt,
+        over.as_slice(),
+        "",
+        Some((FrameFault::BadHeader, 4096)),
+        24,
+    )?;
     // Without a length, the last byte of a part of 4096 bytes shows that.
     let bare = header_part(rt.alloc(), "", 4096)?;
-    check(rt, bare.as_slice(), "", Some((FrameFault::NoLength, 4096)), 24)?;
+    check(
+        rt,
+        bare.as_slice(),
+        "",
+        Some((FrameFault::NoLength, 4096)),
+        24,
+    )?;
     let open = &most.as_slice()[..most.len().min(4094)];
     check(rt, open, "", None, 24)?;
     // A line that ends at the 4096th byte leaves no room for the empty line.
     let ended = header_part(rt.alloc(), length, 4098)?;
-    check(rt, ended.as_slice(), "", Some((FrameFault::BadHeader, 4096)), 24)
+    check(
+        rt,
+        ended.as_slice(),
+        "",
+        Some((FrameFault::BadHeader, 4096)),
+        24,
+    )
 }
 
 #[test]
@@ -125,13 +152,38 @@ fn frames_are_read_however_they_are_cut(rt: HostRuntime) -> Result<(), NoMem> {
         (b"Content-Length: 0\r\n\r\n", "|", None, 0),
         (b"Content-Length: 2\r\n\r\n{}", "{}|", None, 0),
         (b"Content-Length: 2\r\n\r\n{", "", None, 0),
-        (b"Content-Length: 2\r\n\r\n{}Content-Length: 3\r\n\r\nabc", "{}|abc|", None, 0),
-        (b"Content-Length: 2\r\n\r\n\r\nContent-Length: 1\r\n\r\n\n", "\r\n|\n|", None, 0),
+        (
+            b"Content-Length: 2\r\n\r\n{}Content-Length: 3\r\n\r\nabc",
+            "{}|abc|",
+            None,
+            0,
+        ),
+        (
+            b"Content-Length: 2\r\n\r\n\r\nContent-Length: 1\r\n\r\n\n",
+            "\r\n|\n|",
+            None,
+            0,
+        ),
         (b"cONTENT-lENGTH: 1\r\n\r\nx", "x|", None, 0),
-        (b"Content-Type: x\r\nContent-Length: 1\r\nX:\r\n\r\nx", "x|", None, 0),
-        (b"Content-Length : 1\r\nContent-Length:1\r\n\r\nx", "x|", None, 0),
+        (
+            b"Content-Type: x\r\nContent-Length: 1\r\nX:\r\n\r\nx",
+            "x|",
+            None,
+            0,
+        ),
+        (
+            b"Content-Length : 1\r\nContent-Length:1\r\n\r\nx",
+            "x|",
+            None,
+            0,
+        ),
         (b"Content-Length:  7  \r\n\r\nseven!!", "seven!!|", None, 0),
-        (b"Content-Length: 0000000000000000000000000000001\r\n\r\nx", "x|", None, 0),
+        (
+            b"Content-Length: 0000000000000000000000000000001\r\n\r\nx",
+            "x|",
+            None,
+            0,
+        ),
         (b"Content-Length: 4194304\r\n\r\nx", "", None, 0),
         (b"X: a:b:c\r\nContent-Length: 1\r\n\r\nx", "x|", None, 0),
         (b"Content-Length: x", "", None, 0),
@@ -144,8 +196,18 @@ fn frames_are_read_however_they_are_cut(rt: HostRuntime) -> Result<(), NoMem> {
         (b"Content-Length: 2\r\r\n", "", bad, 19),
         (b"X: a\rb\r\n", "", bad, 6),
         (b"\rX", "", bad, 2),
-        (b"Content-Length: 2\r\ncontent-length: 2\r\n\r\n", "", bad, 38),
-        (b"Content-Length: 2\r\ncontent-length: 4194305\r\n\r\n", "", bad, 44),
+        (
+            b"Content-Length: 2\r\ncontent-length: 2\r\n\r\n",
+            "",
+            bad,
+            38,
+        ),
+        (
+            b"Content-Length: 2\r\ncontent-length: 4194305\r\n\r\n",
+            "",
+            bad,
+            44,
+        ),
         (b"Content-Length: x\r\n", "", bad, 19),
         (b"Content-Length:\r\n", "", bad, 17),
         (b"Content-Length:   \r\n", "", bad, 20),
@@ -156,7 +218,12 @@ fn frames_are_read_however_they_are_cut(rt: HostRuntime) -> Result<(), NoMem> {
         (b": 1\r\n", "", bad, 5),
         (b"no colon\r\n", "", bad, 10),
         (b"Content-Length: 4194305\r\n", "", long, 25),
-        (b"Content-Length: 123456789012345678901234567890\r\n\r\n", "", long, 48),
+        (
+            b"Content-Length: 123456789012345678901234567890\r\n\r\n",
+            "",
+            long,
+            48,
+        ),
     ];
     for (bytes, bodies, fault, place) in rows {
         check(&rt, bytes, bodies, fault.map(|f| (f, place)), bytes.len())?;

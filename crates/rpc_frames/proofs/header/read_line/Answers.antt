@@ -34,4 +34,4 @@ pub returns-in-End : goal.returns-in-End
 returns-in-End c =
     let scan = c.read_text-scan.result in
     same_line c.end_line.result c.args.scan scan c.args.bytes.now c.read_text-scan.ensures.line
-      (scan_line scan c.args.bytes.now c.end_line.result c.read_text-scan.ensures.scan (ending c.args.bytes.now scan.seen _ _ c.line_end.ensures c.in-End.is) c.end_line.ensures)
+    (scan_line scan c.args.bytes.now c.end_line.result c.read_text-scan.ensures.scan (ending c.args.bytes.now scan.seen _ _ c.line_end.ensures c.in-End.is) c.end_line.ensures)
