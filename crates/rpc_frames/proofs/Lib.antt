@@ -6,3 +6,4 @@ pub mod StreamLemmas
 pub mod StageLemmas
 pub mod AnswerLemmas
 pub mod WriteLemmas
+pub mod GrammarLemmas

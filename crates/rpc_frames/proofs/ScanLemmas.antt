@@ -22,7 +22,7 @@ passes_by p x xs n true e h = let s : 1 + n ≡ suc n = omega arith in rw s (and
 passes_by p x xs n false e h = refl
 
 -- the longest front that passes does
-front_passes : (p : ℕ → Bool) (xs : List ℕ) → list_all p (take (prefix_len p xs) xs) ≡ true
+pub front_passes : (p : ℕ → Bool) (xs : List ℕ) → list_all p (take (prefix_len p xs) xs) ≡ true
 front_passes p [] = refl
 front_passes p (x ∷ xs) = passes_by p x xs (prefix_len p xs) (p x) refl (front_passes p xs)
 

@@ -3,3 +3,4 @@ pub mod Fields
 pub mod Frames
 pub mod Stages
 pub mod Fed
+pub mod Grammar

@@ -2,6 +2,7 @@
 ghost use Rattle.std.specs.Prelude.{◌≡◌, ◌≤◌, ℕ, List, [], ◌++◌, length};
 ghost use Rattle.std.specs.List.{concat, flat_map, All};
 ghost use Rattle.rpc_frames.specs.Frames.{Frame, front, frames, framed, with_bodies, after_pieces};
+ghost use Rattle.rpc_frames.specs.Grammar.{BeginsWithFrame};
 
 /// However a stream is cut into pieces, its bodies and its end are those of all its bytes.
 pub fn any_cut()
@@ -24,3 +25,10 @@ pub fn reads_what_is_written()
 pub fn reads_all_that_is_written()
     ensures { (bodies : List (List ℕ)) (rest : List ℕ) → All (λ body. length body ≤ 4194304) bodies → frames (flat_map framed bodies ++ rest) ≡ with_bodies bodies (frames rest) }
 {}
+
+/// The bytes begin with a frame exactly where the grammar of frames says so.
+pub fn a_frame_is_what_is_spelled_so()
+    ensures read { (bytes body rest : List ℕ) → front bytes ≡ Frame body rest → BeginsWithFrame bytes body rest }
+    ensures spelled { (bytes body rest : List ℕ) → BeginsWithFrame bytes body rest → front bytes ≡ Frame body rest }
+{
+}
