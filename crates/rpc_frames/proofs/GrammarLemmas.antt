@@ -1,7 +1,7 @@
 -- The front of the bytes and the grammar of frames.
-use Rattle.std.proofs.Common.{◌≡◌, ℕ, ◌+◌, ◌-◌, ◌<◌, ◌≤◌, ◌==◌, ◌&&◌, suc, not, nat_lt, nat_le, Bool, true, false, cond, Option, Some, None, Result, Ok, Err, List, [], ◌∷◌, ◌++◌, length, take, drop, ◌⊎◌, map, get_or, inl, inr, refl, sym, ◌∙◌, ap, subst, append_assoc, append-nil, arith, length-append}
-use Rattle.std.specs.List.{list_all, prefix_len, filter, flat_map, AllByRecursion, position}
-use Rattle.std.proofs.lemmas.Bool.{and_parts, and_from, cases_Bool, lt-ltb, le-leb, ltb-true, leb-true, eqb-true, not-true, not-false, not_from_true, not_from_false}
+use Rattle.std.proofs.Common.{◌≡◌, ℕ, ◌+◌, ◌<◌, ◌≤◌, ◌==◌, ◌&&◌, suc, not, nat_lt, nat_le, Bool, true, false, cond, Option, Some, None, Result, Ok, Err, List, [], ◌∷◌, ◌++◌, length, take, drop, ◌⊎◌, map, get_or, inl, inr, refl, sym, ◌∙◌, ap, subst, append_assoc, append-nil, arith, length-append}
+use Rattle.std.specs.List.{list_all, prefix_len, filter, flat_map, AllByRecursion}
+use Rattle.std.proofs.lemmas.Bool.{and_parts, and_from, cases_Bool, lt-ltb, le-ltb, ltb-false, le-leb, ltb-true, leb-true, eqb-true, not-false}
 use Rattle.std.proofs.lemmas.List.{drop_more, drop-drop, take-append-drop, length-take-le}
 use Rattle.std.proofs.Math.Seq.{take-append_seam, drop-append_seam}
 use Rattle.std.proofs.lemmas.List.Folds.{list_all-append}
@@ -10,14 +10,14 @@ use Rattle.rpc_frames.specs.declared.faults.FrameFault.{FrameFault}
 use Rattle.rpc_frames.specs.declared.faults.FrameFault.TheVariants.{BadHeader, NoLength}
 use Rattle.rpc_frames.specs.Lines.{Lines, Line, Open, Stray, is_text, onto, lines}
 use Rattle.rpc_frames.specs.Fields.{is_colon, is_length_name, value_length, told_once, field_length, field_at, line_length}
-use Rattle.rpc_frames.specs.Frames.{Header, Whole, Short, Faulty, ended_header, after_line, header_of, header, Front, Frame, Partial, Broken, front_of, front}
+use Rattle.rpc_frames.specs.Frames.{Header, Whole, Short, Faulty, ended_header, after_line, header_of, header, Frame, Partial, Broken, front_of, front}
 use Rattle.rpc_frames.specs.Grammar.{HeaderLine, is_name, IsHeaderLine, line_text, spelled, length_values, Tells, AreHeaderLines, BeginsWithFrame}
 use Rattle.rpc_frames.proofs.LineLemmas.{lines_cons, lines_marked, lines_single, lines_none, lines_text}
 use Rattle.rpc_frames.proofs.ScanLemmas.{front_passes}
 use Rattle.rpc_frames.proofs.StageLemmas.{front_whole}
 
 -- lines are texts with CR LF behind them
-abbrev Cut : List ℕ → Lines → Type 0
+abbrev pub Cut : List ℕ → Lines → Type 0
 Cut bytes (Line text rest later) = (list_all is_text text ≡ true) × (bytes ≡ text ++ 13 ∷ 10 ∷ rest) × (later ≡ lines rest) × Cut rest later
 Cut bytes (Open text) = Unit {0}
 Cut bytes Stray = Unit {0}
@@ -39,15 +39,15 @@ cut_pair b c bytes true e cut =
     (refl, cc, refl, cut)
 cut_pair b c bytes false e cut = tt
 
-lines_cut : (bytes : List ℕ) → Cut bytes (lines bytes)
+pub lines_cut : (bytes : List ℕ) → Cut bytes (lines bytes)
 lines_cut [] = subst (Cut []) (sym lines_none) tt
 lines_cut (b ∷ []) = subst (Cut (b ∷ [])) (sym (lines_single b)) (cut_single b (b == 10))
 lines_cut (b ∷ c ∷ bytes) =
     let one = lines_cut (c ∷ bytes) in
     let two = lines_cut bytes in
     elim (cases_Bool (is_text b)) [
-      inl h ↦ subst (Cut (b ∷ c ∷ bytes)) (sym (lines_cons b (c ∷ bytes) h)) (cut_onto b (c ∷ bytes) (lines (c ∷ bytes)) h one)
-    | inr h ↦ subst (Cut (b ∷ c ∷ bytes)) (sym (lines_marked b c bytes h)) (cut_pair b c bytes ((b == 13) && (c == 10)) refl two)
+      | inl h ↦ subst (Cut (b ∷ c ∷ bytes)) (sym (lines_cons b (c ∷ bytes) h)) (cut_onto b (c ∷ bytes) (lines (c ∷ bytes)) h one)
+      | inr h ↦ subst (Cut (b ∷ c ∷ bytes)) (sym (lines_marked b c bytes h)) (cut_pair b c bytes ((b == 13) && (c == 10)) refl two)
     ]
 
 -- the values of lines
@@ -58,7 +58,7 @@ length_values-append : (a b : List HeaderLine) → length_values (a ++ b) ≡ le
 length_values-append [] b = refl
 length_values-append (line ∷ a) b = by (is_length_name line.name) (length_values-append a b) where
   by : (t : Bool) → length_values (a ++ b) ≡ length_values a ++ length_values b →
-    map (λ (l : HeaderLine). l.value) (cond t (line ∷ filter (λ l. is_length_name l.name) (a ++ b)) (filter (λ l. is_length_name l.name) (a ++ b)))
+      map (λ (l : HeaderLine). l.value) (cond t (line ∷ filter (λ l. is_length_name l.name) (a ++ b)) (filter (λ l. is_length_name l.name) (a ++ b)))
       ≡ map (λ (l : HeaderLine). l.value) (cond t (line ∷ filter (λ l. is_length_name l.name) a) (filter (λ l. is_length_name l.name) a)) ++ length_values b
   by true e = ap (λ d. line.value ∷ d) e
   by false e = e
@@ -96,11 +96,13 @@ tells_more lines line told known t e = named line.name refl e where
   by : (s : Bool) → is_length_name line.name ≡ s → cond s (told_once told (value_length line.value)) (Ok told) ≡ Ok known → Tells (lines ++ line ∷ []) known
   by true i h = tells_once lines line told known (value_length line.value) t (values_one line true i) refl h
   by false i h = subst (Tells (lines ++ line ∷ [])) (good_same told known h) (tells_same lines line told t (values_one line false i))
+
   named : (name : List ℕ) → line.name ≡ name → field_length told name line.value ≡ Ok known → (0 < length line.name) × Tells (lines ++ line ∷ []) known
   named [] i h = absurd (bad_good BadHeader known h)
-  named (b ∷ name) i h =
-      (subst (λ (n : List ℕ). 0 < length n) (sym i) (omega arith),
-       by (is_length_name line.name) refl (ap (λ n. cond (is_length_name n) (told_once told (value_length line.value)) (Ok told)) i ∙ h))
+  named (b ∷ name) i h = (
+    subst (λ (n : List ℕ). 0 < length n) (sym i) (omega arith),
+    by (is_length_name line.name) refl (ap (λ n. cond (is_length_name n) (told_once told (value_length line.value)) (Ok told)) i ∙ h),
+  )
 
 no_colon : ℕ → Bool
 no_colon b = not (is_colon b)
@@ -130,18 +132,19 @@ read_line : (told known : Option ℕ) (text : List ℕ) → list_all is_text tex
 read_line told known text all e = by (nat_lt at (length text)) refl e where
   at : ℕ
   at = prefix_len (λ b. not (is_colon b)) text
+
   by : (t : Bool) → nat_lt at (length text) ≡ t → field_at told text (cond t (Some at) None) ≡ Ok known → ReadLine told known text
   by false i h = absurd (bad_good BadHeader known h)
   by true i h =
-    let parts = line_parts text at refl (ltb-true at (length text) i) in
-    let two = and_parts (list_all is_text (take at text)) (list_all is_text (58 ∷ drop (at + 1) text)) (sym (list_all-append is_text (take at text) (58 ∷ drop (at + 1) text)) ∙ ap (list_all is_text) (sym parts) ∙ all) in
-    record {
-      line = record { name = take at text; value = drop (at + 1) text };
-      parts = parts;
-      name = all_both is_text (λ b. not (is_colon b)) (take at text) two.0 (front_passes (λ b. not (is_colon b)) text);
-      value = (and_parts (is_text 58) (list_all is_text (drop (at + 1) text)) two.1).1;
-      gives = h;
-    }
+      let parts = line_parts text at refl (ltb-true at (length text) i) in
+      let two = and_parts (list_all is_text (take at text)) (list_all is_text (58 ∷ drop (at + 1) text)) (sym (list_all-append is_text (take at text) (58 ∷ drop (at + 1) text)) ∙ ap (list_all is_text) (sym parts) ∙ all) in
+      record {
+        line = record { name = take at text; value = drop (at + 1) text };
+        parts = parts;
+        name = all_both is_text (λ b. not (is_colon b)) (take at text) two.0 (front_passes (λ b. not (is_colon b)) text);
+        value = (and_parts (is_text 58) (list_all is_text (drop (at + 1) text)) two.1).1;
+        gives = h;
+      }
 
 all_snoc : (lines : List HeaderLine) (line : HeaderLine) → AllByRecursion IsHeaderLine lines → IsHeaderLine line → AllByRecursion IsHeaderLine (lines ++ line ∷ [])
 all_snoc [] line a l = (l, tt)
@@ -162,59 +165,63 @@ lines_more head told known text are read =
     }
 
 -- where the reading of header lines stops
-abbrev Stops : Option ℕ → ℕ → Lines → Type 0
+abbrev pub Stops : Option ℕ → ℕ → Lines → Type 0
 Stops told size (Line [] rest later) = Unit {0}
-Stops told size (Line (b ∷ text) rest later) = (header_of size told (Line (b ∷ text) rest later) ≡ Faulty BadHeader) ⊎ ((fault : FrameFault) × (header_of size told (Line (b ∷ text) rest later) ≡ Faulty fault))
+Stops told size (Line (b ∷ text) rest later) = (4096 ≤ size + length (b ∷ text) + 2) ⊎ ((fault : FrameFault) × (size + length (b ∷ text) + 2 < 4096) × (line_length told (b ∷ text) ≡ Err fault))
 Stops told size (Open text) = Unit {0}
 Stops told size Stray = Unit {0}
 
 -- the header lines at the front, and where they stop
-record Parsed (bytes : List ℕ) (whole : Header) : Type 0 where
-  head : List ℕ
-  told : Option ℕ
-  rest : List ℕ
-  are : AreHeaderLines head told
-  parts : bytes ≡ head ++ rest
-  same : whole ≡ header_of (length head) told (lines rest)
-  stops : Stops told (length head) (lines rest)
+pub record Parsed (bytes : List ℕ) (whole : Header) : Type 0 where
+  pub head : List ℕ
+  pub told : Option ℕ
+  pub rest : List ℕ
+  pub are : AreHeaderLines head told
+  pub below : length head < 4096
+  pub parts : bytes ≡ head ++ rest
+  pub same : whole ≡ header_of (length head) told (lines rest)
+  pub stops : Stops told (length head) (lines rest)
 
 parsed_by : (a b : List ℕ) (h k : Header) → b ≡ a → k ≡ h → Parsed a h → Parsed b k
-parsed_by a b h k e f p = record { head = p.head; told = p.told; rest = p.rest; are = p.are; parts = e ∙ p.parts; same = f ∙ p.same; stops = p.stops }
+parsed_by a b h k e f p = record { head = p.head; told = p.told; rest = p.rest; are = p.are; below = p.below; parts = e ∙ p.parts; same = f ∙ p.same; stops = p.stops }
 
-parsed_here : (head bytes : List ℕ) (told : Option ℕ) (ls : Lines) → AreHeaderLines head told → ls ≡ lines bytes → Stops told (length head) ls → Parsed (head ++ bytes) (header_of (length head) told ls)
-parsed_here head bytes told ls are e s = record { head = head; told = told; rest = bytes; are = are; parts = refl; same = ap (header_of (length head) told) e; stops = subst (Stops told (length head)) e s }
+parsed_here : (head bytes : List ℕ) (told : Option ℕ) (ls : Lines) → AreHeaderLines head told → length head < 4096 → ls ≡ lines bytes → Stops told (length head) ls → Parsed (head ++ bytes) (header_of (length head) told ls)
+parsed_here head bytes told ls are small e s = record { head = head; told = told; rest = bytes; are = are; below = small; parts = refl; same = ap (header_of (length head) told) e; stops = subst (Stops told (length head)) e s }
 
-parse : (ls : Lines) (head bytes : List ℕ) (told : Option ℕ) → AreHeaderLines head told → ls ≡ lines bytes → Cut bytes ls → Parsed (head ++ bytes) (header_of (length head) told ls)
-parse (Line [] rest later) head bytes told are e cut = parsed_here head bytes told (Line [] rest later) are e tt
-parse (Open text) head bytes told are e cut = parsed_here head bytes told (Open text) are e tt
-parse Stray head bytes told are e cut = parsed_here head bytes told Stray are e tt
-parse (Line (b ∷ text) rest later) head bytes told are e cut =
+parse : (ls : Lines) (head bytes : List ℕ) (told : Option ℕ) → AreHeaderLines head told → length head < 4096 → ls ≡ lines bytes → Cut bytes ls → Parsed (head ++ bytes) (header_of (length head) told ls)
+parse (Line [] rest later) head bytes told are small e cut = parsed_here head bytes told (Line [] rest later) are small e tt
+parse (Open text) head bytes told are small e cut = parsed_here head bytes told (Open text) are small e tt
+parse Stray head bytes told are small e cut = parsed_here head bytes told Stray are small e tt
+parse (Line (b ∷ text) rest later) head bytes told are small e cut =
     by (nat_lt (length head + length (b ∷ text) + 2) 4096) refl (line_length told (b ∷ text)) refl
-      (λ known more. parse later (head ++ ((b ∷ text) ++ 13 ∷ 10 ∷ [])) rest known more cut.2 cut.3) where
-  whole : Header
-  whole = header_of (length head) told (Line (b ∷ text) rest later)
-  next : ℕ
-  next = length head + length (b ∷ text) + 2
-  longer : length (head ++ ((b ∷ text) ++ 13 ∷ 10 ∷ [])) ≡ next
-  longer = omega (arith, length-append head ((b ∷ text) ++ 13 ∷ 10 ∷ []), length-append (b ∷ text) (13 ∷ 10 ∷ []))
-  bytes_parts : head ++ bytes ≡ (head ++ ((b ∷ text) ++ 13 ∷ 10 ∷ [])) ++ rest
-  bytes_parts = ap (λ d. head ++ d) (cut.1 ∙ sym (append_assoc (b ∷ text) (13 ∷ 10 ∷ []) rest)) ∙ sym (append_assoc head ((b ∷ text) ++ 13 ∷ 10 ∷ []) rest)
-  by : (t : Bool) → nat_lt next 4096 ≡ t → (r : Result (Option ℕ) FrameFault) → line_length told (b ∷ text) ≡ r →
-      ((known : Option ℕ) → AreHeaderLines (head ++ ((b ∷ text) ++ 13 ∷ 10 ∷ [])) known → Parsed ((head ++ ((b ∷ text) ++ 13 ∷ 10 ∷ [])) ++ rest) (header_of (length (head ++ ((b ∷ text) ++ 13 ∷ 10 ∷ []))) known later)) →
-      Parsed (head ++ bytes) whole
-  by false i r k go = parsed_here head bytes told (Line (b ∷ text) rest later) are e
-      (inl (ap (λ t. cond t (after_line (line_length told (b ∷ text)) (λ known. header_of next known later)) (Faulty BadHeader)) i))
-  by true i (Err fault) k go = parsed_here head bytes told (Line (b ∷ text) rest later) are e
-      (inr (fault, ap (λ t. cond t (after_line (line_length told (b ∷ text)) (λ known. header_of next known later)) (Faulty BadHeader)) i
-        ∙ ap (λ r. after_line r (λ known. header_of next known later)) k))
-  by true i (Ok known) k go =
-      parsed_by _ _ _ _ bytes_parts
-        (ap (λ t. cond t (after_line (line_length told (b ∷ text)) (λ known. header_of next known later)) (Faulty BadHeader)) i
-          ∙ ap (λ r. after_line r (λ known. header_of next known later)) k ∙ ap (λ n. header_of n known later) (sym longer))
-        (go known (lines_more head told known (b ∷ text) are (read_line told known (b ∷ text) cut.0 k)))
+    (λ known more low. parse later (head ++ ((b ∷ text) ++ 13 ∷ 10 ∷ [])) rest known more low cut.2 cut.3) where
+      whole : Header
+      whole = header_of (length head) told (Line (b ∷ text) rest later)
 
-parsed : (bytes : List ℕ) → Parsed bytes (header bytes)
-parsed bytes = parse (lines bytes) [] bytes None (record { lines = []; each = tt; parts = refl; tells = refl }) refl (lines_cut bytes)
+      next : ℕ
+      next = length head + length (b ∷ text) + 2
+
+      longer : length (head ++ ((b ∷ text) ++ 13 ∷ 10 ∷ [])) ≡ next
+      longer = omega (arith, length-append head ((b ∷ text) ++ 13 ∷ 10 ∷ []), length-append (b ∷ text) (13 ∷ 10 ∷ []))
+
+      bytes_parts : head ++ bytes ≡ (head ++ ((b ∷ text) ++ 13 ∷ 10 ∷ [])) ++ rest
+      bytes_parts = ap (λ d. head ++ d) (cut.1 ∙ sym (append_assoc (b ∷ text) (13 ∷ 10 ∷ []) rest)) ∙ sym (append_assoc head ((b ∷ text) ++ 13 ∷ 10 ∷ []) rest)
+
+      by : (t : Bool) → nat_lt next 4096 ≡ t → (r : Result (Option ℕ) FrameFault) → line_length told (b ∷ text) ≡ r →
+          ((known : Option ℕ) → AreHeaderLines (head ++ ((b ∷ text) ++ 13 ∷ 10 ∷ [])) known → length (head ++ ((b ∷ text) ++ 13 ∷ 10 ∷ [])) < 4096 → Parsed ((head ++ ((b ∷ text) ++ 13 ∷ 10 ∷ [])) ++ rest) (header_of (length (head ++ ((b ∷ text) ++ 13 ∷ 10 ∷ []))) known later)) →
+          Parsed (head ++ bytes) whole
+      by false i r k go = parsed_here head bytes told (Line (b ∷ text) rest later) are small e
+          (inl (ltb-false next 4096 i))
+      by true i (Err fault) k go = parsed_here head bytes told (Line (b ∷ text) rest later) are small e
+          (inr (fault, ltb-true next 4096 i, k))
+      by true i (Ok known) k go =
+          parsed_by _ _ _ _ bytes_parts
+          (ap (λ t. cond t (after_line (line_length told (b ∷ text)) (λ known. header_of next known later)) (Faulty BadHeader)) i
+          ∙ ap (λ r. after_line r (λ known. header_of next known later)) k ∙ ap (λ n. header_of n known later) (sym longer))
+          (go known (lines_more head told known (b ∷ text) are (read_line told known (b ∷ text) cut.0 k)) (omega (arith, longer, ltb-true next 4096 i)))
+
+pub parsed : (bytes : List ℕ) → Parsed bytes (header bytes)
+parsed bytes = parse (lines bytes) [] bytes None (record { lines = []; each = tt; parts = refl; tells = refl }) (omega arith) refl (lines_cut bytes)
 
 -- a frame at the front is a whole header part and enough bytes after it
 record FrontFrame (h : Header) (body rest : List ℕ) : Type 0 where
@@ -234,10 +241,13 @@ front_frame (Faulty fault) body rest e = absurd (never e) where
 front_frame (Whole told after) body rest e = by (nat_le told (length after)) refl e where
   never : Partial ≡ Frame body rest → ⊥
   never k = cc
+
   bodies : Frame (take told after) (drop told after) ≡ Frame body rest → take told after ≡ body
   bodies k = cc
+
   rests : Frame (take told after) (drop told after) ≡ Frame body rest → drop told after ≡ rest
   rests k = cc
+
   by : (t : Bool) → nat_le told (length after) ≡ t → cond t (Frame (take told after) (drop told after)) Partial ≡ Frame body rest → FrontFrame (Whole told after) body rest
   by false i k = absurd (never k)
   by true i k = record {
@@ -261,6 +271,7 @@ ended_told None rest n after e = absurd (never e) where
 ended_told (Some m) rest n after e = (ap Some (number e), bytes e) where
   number : Whole m rest ≡ Whole n after → m ≡ n
   number h = cc
+
   bytes : Whole m rest ≡ Whole n after → rest ≡ after
   bytes h = cc
 
@@ -268,15 +279,22 @@ empty_line : (ls : Lines) (told : Option ℕ) (size n : ℕ) (bytes after : List
 empty_line (Line [] rest later) told size n bytes after cut stops e = by (nat_le (size + 2) 4096) refl e where
   never : Faulty BadHeader ≡ Whole n after → ⊥
   never h = cc
+
   by : (t : Bool) → nat_le (size + 2) 4096 ≡ t → cond t (ended_header told rest) (Faulty BadHeader) ≡ Whole n after → EmptyLine told size bytes n after
   by false i h = absurd (never h)
   by true i h =
-    let ended = ended_told told rest n after h in
-    record { is_told = ended.0; within = leb-true (size + 2) 4096 i; parts = cut.1 ∙ ap (λ d. 13 ∷ 10 ∷ d) ended.1 }
+      let ended = ended_told told rest n after h in
+      record { is_told = ended.0; within = leb-true (size + 2) 4096 i; parts = cut.1 ∙ ap (λ d. 13 ∷ 10 ∷ d) ended.1 }
 empty_line (Line (b ∷ text) rest later) told size n bytes after cut stops e = absurd (elim stops [
-    inl h ↦ never BadHeader (sym h ∙ e)
-  | inr h ↦ never h.0 (sym h.1 ∙ e)
-  ]) where
+  | inl h ↦ never BadHeader (sym (ap (λ t. cond t tested (Faulty BadHeader)) (le-ltb next 4096 h)) ∙ e)
+  | inr h ↦ never h.0 (sym (ap (λ t. cond t tested (Faulty BadHeader)) (lt-ltb next 4096 h.1) ∙ ap (λ r. after_line r (λ known. header_of next known later)) h.2) ∙ e)
+]) where
+  next : ℕ
+  next = size + length (b ∷ text) + 2
+
+  tested : Header
+  tested = after_line (line_length told (b ∷ text)) (λ known. header_of next known later)
+
   never : (fault : FrameFault) → Faulty fault ≡ Whole n after → ⊥
   never fault h = cc
 empty_line (Open text) told size n bytes after cut stops e = absurd (by (nat_lt (size + length text) 4096) e) where
@@ -304,7 +322,7 @@ frame_spelled bytes body rest e =
 
 -- the other way: what is spelled as header lines is read as these
 
-abbrev TellsOn : Option ℕ → List HeaderLine → Option ℕ → Type 0
+abbrev pub TellsOn : Option ℕ → List HeaderLine → Option ℕ → Type 0
 TellsOn None lines known = Tells lines known
 TellsOn (Some n) lines known = (length_values lines ≡ []) × (known ≡ Some n)
 
@@ -313,9 +331,9 @@ colon_after [] rest e = refl
 colon_after (b ∷ name) rest e =
     let both = and_parts (is_name b) (list_all is_name name) e in
     ap (λ t. cond t (1 + prefix_len (λ b. not (is_colon b)) (name ++ 58 ∷ rest)) 0) (and_parts (is_text b) (not (is_colon b)) both.0).1
-      ∙ ap (λ n. 1 + n) (colon_after name rest both.1) ∙ one (length name) where
-  one : (n : ℕ) → 1 + n ≡ suc n
-  one n = omega arith
+    ∙ ap (λ n. 1 + n) (colon_after name rest both.1) ∙ one (length name) where
+      one : (n : ℕ) → 1 + n ≡ suc n
+      one n = omega arith
 
 text_of_name : (name : List ℕ) → list_all is_name name ≡ true → list_all is_text name ≡ true
 text_of_name [] e = refl
@@ -330,9 +348,9 @@ text_of_line line is = list_all-append is_text line.name (58 ∷ line.value) ∙
 line_read : (told : Option ℕ) (line : HeaderLine) → IsHeaderLine line → line_length told (line_text line) ≡ field_length told line.name line.value
 line_read told line is =
     ap (λ n. field_at told (line_text line) (cond (nat_lt n (length (line_text line))) (Some n) None)) (colon_after line.name line.value is.name)
-      ∙ ap (λ t. field_at told (line_text line) (cond t (Some (length line.name)) None)) (lt-ltb (length line.name) (length (line_text line)) (omega (arith, length-append line.name (58 ∷ line.value))))
-      ∙ ap (λ name. field_length told name (drop (length line.name + 1) (line_text line))) (take-append_seam line.name (58 ∷ line.value))
-      ∙ ap (field_length told line.name) (sym (drop-drop 1 (length line.name) (line_text line)) ∙ ap (drop 1) (drop-append_seam line.name (58 ∷ line.value)))
+    ∙ ap (λ t. field_at told (line_text line) (cond t (Some (length line.name)) None)) (lt-ltb (length line.name) (length (line_text line)) (omega (arith, length-append line.name (58 ∷ line.value))))
+    ∙ ap (λ name. field_length told name (drop (length line.name + 1) (line_text line))) (take-append_seam line.name (58 ∷ line.value))
+    ∙ ap (field_length told line.name) (sym (drop-drop 1 (length line.name) (line_text line)) ∙ ap (drop 1) (drop-append_seam line.name (58 ∷ line.value)))
 
 -- what a line tells, and what the lines after it then tell
 record Told (told : Option ℕ) (line : HeaderLine) (lines : List HeaderLine) (known : Option ℕ) : Type 0 where
@@ -353,47 +371,52 @@ line_told told known line lines some tells = by (is_length_name line.name) refl 
   valued : (t : Bool) → is_length_name line.name ≡ t → length_values (line ∷ lines) ≡ cond t (line.value ∷ length_values lines) (length_values lines)
   valued true e = ap (λ t. map (λ (l : HeaderLine). l.value) (cond t (line ∷ filter (λ l. is_length_name l.name) lines) (filter (λ l. is_length_name l.name) lines))) e
   valued false e = ap (λ t. map (λ (l : HeaderLine). l.value) (cond t (line ∷ filter (λ l. is_length_name l.name) lines) (filter (λ l. is_length_name l.name) lines))) e
+
   no_cons : (x : List ℕ) (xs : List (List ℕ)) → x ∷ xs ≡ [] → ⊥
   no_cons x xs h = cc
+
   head_same : (x y : List ℕ) (xs ys : List (List ℕ)) → x ∷ xs ≡ y ∷ ys → (x ≡ y) × (xs ≡ ys)
   head_same x y xs ys h = (cc, cc)
+
   first : (known : Option ℕ) → Tells (line ∷ lines) known → is_length_name line.name ≡ true → Told None line lines known
   first None h e = absurd (no_cons line.value (length_values lines) (sym (valued true e) ∙ h))
   first (Some n) h e =
-    let same = head_same line.value h.0 (length_values lines) [] (sym (valued true e) ∙ h.1) in
-    record {
-      between = Some n;
-      gives = named_length None line true some e ∙ ap (told_once None) (ap value_length same.0 ∙ h.2);
-      on = (same.1, refl);
-    }
+      let same = head_same line.value h.0 (length_values lines) [] (sym (valued true e) ∙ h.1) in
+      record {
+        between = Some n;
+        gives = named_length None line true some e ∙ ap (told_once None) (ap value_length same.0 ∙ h.2);
+        on = (same.1, refl);
+      }
+
   later : (known : Option ℕ) → Tells (line ∷ lines) known → is_length_name line.name ≡ false → Tells lines known
   later None h e = sym (valued false e) ∙ h
   later (Some n) h e = (h.0, sym (valued false e) ∙ h.1, h.2)
+
   by : (t : Bool) → is_length_name line.name ≡ t → (o : Option ℕ) → told ≡ o → Told told line lines known
   by true e None i = subst (λ o. Told o line lines known) (sym i) (first known (subst (λ o. TellsOn o (line ∷ lines) known) i tells) e)
   by true e (Some n) i = absurd (no_cons line.value (length_values lines) (sym (valued true e) ∙ (subst (λ o. TellsOn o (line ∷ lines) known) i tells).0))
   by false e None i =
-    subst (λ o. Told o line lines known) (sym i) (record { between = None; gives = named_length None line false some e; on = later known (subst (λ o. TellsOn o (line ∷ lines) known) i tells) e })
+      subst (λ o. Told o line lines known) (sym i) (record { between = None; gives = named_length None line false some e; on = later known (subst (λ o. TellsOn o (line ∷ lines) known) i tells) e })
   by false e (Some n) i =
-    let there = subst (λ o. TellsOn o (line ∷ lines) known) i tells in
-    subst (λ o. Told o line lines known) (sym i) (record { between = Some n; gives = named_length (Some n) line false some e; on = (sym (valued false e) ∙ there.0, there.1) })
+      let there = subst (λ o. TellsOn o (line ∷ lines) known) i tells in
+      subst (λ o. Told o line lines known) (sym i) (record { between = Some n; gives = named_length (Some n) line false some e; on = (sym (valued false e) ∙ there.0, there.1) })
 
-line_end : (rest : List ℕ) → lines (13 ∷ 10 ∷ rest) ≡ Line [] rest (lines rest)
+pub line_end : (rest : List ℕ) → lines (13 ∷ 10 ∷ rest) ≡ Line [] rest (lines rest)
 unfolding lines
 line_end rest = refl
 
 spelled_lines : (line : HeaderLine) (rest : List ℕ) → IsHeaderLine line → lines (spelled line ++ rest) ≡ Line (line_text line) rest (lines rest)
 spelled_lines line rest is =
     ap lines (append_assoc (line_text line) (13 ∷ 10 ∷ []) rest) ∙ lines_text (line_text line) (13 ∷ 10 ∷ rest) (text_of_line line is)
-      ∙ ap (onto (line_text line)) (line_end rest) ∙ ap (λ text. Line text rest (lines rest)) (append-nil (line_text line))
+    ∙ ap (onto (line_text line)) (line_end rest) ∙ ap (λ text. Line text rest (lines rest)) (append-nil (line_text line))
 
 step_over : (taken : ℕ) (told known : Option ℕ) (text rest : List ℕ) → 0 < length text → line_length told text ≡ Ok known → taken + length text + 2 < 4096 → header_of taken told (Line text rest (lines rest)) ≡ header_of (taken + length text + 2) known (lines rest)
 step_over taken told known [] rest some e h = absurd (omega arith)
 step_over taken told known (b ∷ text) rest some e h =
     ap (λ t. cond t (after_line (line_length told (b ∷ text)) (λ k. header_of (taken + length (b ∷ text) + 2) k (lines rest))) (Faulty BadHeader)) (lt-ltb (taken + length (b ∷ text) + 2) 4096 h)
-      ∙ ap (λ r. after_line r (λ k. header_of (taken + length (b ∷ text) + 2) k (lines rest))) e
+    ∙ ap (λ r. after_line r (λ k. header_of (taken + length (b ∷ text) + 2) k (lines rest))) e
 
-lines_read : (all : List HeaderLine) (taken : ℕ) (told known : Option ℕ) (rest : List ℕ) → AllByRecursion IsHeaderLine all → TellsOn told all known → taken + length (flat_map spelled all) < 4096 →
+pub lines_read : (all : List HeaderLine) (taken : ℕ) (told known : Option ℕ) (rest : List ℕ) → AllByRecursion IsHeaderLine all → TellsOn told all known → taken + length (flat_map spelled all) < 4096 →
     header_of taken told (lines (flat_map spelled all ++ rest)) ≡ header_of (taken + length (flat_map spelled all)) known (lines rest)
 lines_read [] taken told known rest each tells h = ap (λ n. header_of n told (lines rest)) (omega arith) ∙ ap (λ o. header_of (taken + 0) o (lines rest)) (same told tells) where
   same : (o : Option ℕ) → TellsOn o [] known → o ≡ known
@@ -407,26 +430,28 @@ lines_read [] taken told known rest each tells h = ap (λ n. header_of n told (l
 lines_read (line ∷ all) taken told known rest each tells h =
     let told_line = line_told told known line all each.0.some tells in
     let size : length (spelled line ++ flat_map spelled all) ≡ length (line_text line) + 2 + length (flat_map spelled all) =
-      omega (arith, length-append (spelled line) (flat_map spelled all), length-append (line_text line) (13 ∷ 10 ∷ [])) in
+    omega (arith, length-append (spelled line) (flat_map spelled all), length-append (line_text line) (13 ∷ 10 ∷ [])) in
     let some : 0 < length (line_text line) = omega (arith, length-append line.name (58 ∷ line.value)) in
     let room : taken + length (line_text line) + 2 < 4096 = omega (arith, size) in
     ap (λ d. header_of taken told (lines d)) (append_assoc (spelled line) (flat_map spelled all) rest)
-      ∙ ap (header_of taken told) (spelled_lines line (flat_map spelled all ++ rest) each.0)
-      ∙ step_over taken told told_line.between (line_text line) (flat_map spelled all ++ rest) some (line_read told line each.0 ∙ told_line.gives) room
-      ∙ lines_read all (taken + length (line_text line) + 2) told_line.between known rest each.1 told_line.on (omega (arith, size))
-      ∙ ap (λ n. header_of n known (lines rest)) (omega (arith, size))
+    ∙ ap (header_of taken told) (spelled_lines line (flat_map spelled all ++ rest) each.0)
+    ∙ step_over taken told told_line.between (line_text line) (flat_map spelled all ++ rest) some (line_read told line each.0 ∙ told_line.gives) room
+    ∙ lines_read all (taken + length (line_text line) + 2) told_line.between known rest each.1 told_line.on (omega (arith, size))
+    ∙ ap (λ n. header_of n known (lines rest)) (omega (arith, size))
 
 -- what is spelled as a frame is read as one
 pub spelled_frame : (bytes body rest : List ℕ) → BeginsWithFrame bytes body rest → front bytes ≡ Frame body rest
 spelled_frame bytes body rest is =
     front_whole bytes (body ++ rest) (length body) whole (omega (arith, length-append body rest))
-      ∙ ap (λ b. Frame b (drop (length body) (body ++ rest))) (take-append_seam body rest) ∙ ap (Frame body) (drop-append_seam body rest) where
-  size : length is.head ≡ length (flat_map spelled is.lines.lines)
-  size = ap length is.lines.parts
-  spelled_so : bytes ≡ flat_map spelled is.lines.lines ++ 13 ∷ 10 ∷ (body ++ rest)
-  spelled_so = is.parts ∙ ap (λ d. d ++ 13 ∷ 10 ∷ (body ++ rest)) is.lines.parts
-  whole : header bytes ≡ Whole (length body) (body ++ rest)
-  whole = ap header spelled_so
-    ∙ lines_read is.lines.lines 0 None (Some (length body)) (13 ∷ 10 ∷ (body ++ rest)) is.lines.each is.lines.tells (omega (arith, size, is.within))
-    ∙ ap (header_of (0 + length (flat_map spelled is.lines.lines)) (Some (length body))) (line_end (body ++ rest))
-    ∙ ap (λ t. cond t (Whole (length body) (body ++ rest)) (Faulty BadHeader)) (le-leb (0 + length (flat_map spelled is.lines.lines) + 2) 4096 (omega (arith, size, is.within)))
+    ∙ ap (λ b. Frame b (drop (length body) (body ++ rest))) (take-append_seam body rest) ∙ ap (Frame body) (drop-append_seam body rest) where
+      size : length is.head ≡ length (flat_map spelled is.lines.lines)
+      size = ap length is.lines.parts
+
+      spelled_so : bytes ≡ flat_map spelled is.lines.lines ++ 13 ∷ 10 ∷ (body ++ rest)
+      spelled_so = is.parts ∙ ap (λ d. d ++ 13 ∷ 10 ∷ (body ++ rest)) is.lines.parts
+
+      whole : header bytes ≡ Whole (length body) (body ++ rest)
+      whole = ap header spelled_so
+          ∙ lines_read is.lines.lines 0 None (Some (length body)) (13 ∷ 10 ∷ (body ++ rest)) is.lines.each is.lines.tells (omega (arith, size, is.within))
+          ∙ ap (header_of (0 + length (flat_map spelled is.lines.lines)) (Some (length body))) (line_end (body ++ rest))
+          ∙ ap (λ t. cond t (Whole (length body) (body ++ rest)) (Faulty BadHeader)) (le-leb (0 + length (flat_map spelled is.lines.lines) + 2) 4096 (omega (arith, size, is.within)))

@@ -48,12 +48,12 @@ grows_onto b bytes (Line text rest later) more longer g =
 grows_onto b bytes (Open text) more longer g = reaches_onto b (length text) (length (b ∷ text)) longer (omega arith) g
 grows_onto b bytes Stray more longer g = ap (onto (b ∷ [])) g
 
-reaches_none : (ls : Lines) → Reaches 0 ls
+pub reaches_none : (ls : Lines) → Reaches 0 ls
 reaches_none (Line text rest later) = omega arith
 reaches_none (Open text) = omega arith
 reaches_none Stray = tt
 
-lf_stray : (b : ℕ) (more : List ℕ) → (b == 10) ≡ true → lines (b ∷ more) ≡ Stray
+pub lf_stray : (b : ℕ) (more : List ℕ) → (b == 10) ≡ true → lines (b ∷ more) ≡ Stray
 lf_stray b [] e = lines_single b ∙ ap (λ t. cond t Stray (Open (b ∷ []))) e
 lf_stray b (c ∷ more) e =
     let same : b ≡ 10 = eqb-true b 10 e in
@@ -65,7 +65,7 @@ reaches_pair : (t : Bool) (bytes : List ℕ) (ls : Lines) → Reaches 1 (cond t 
 reaches_pair true bytes ls = omega arith
 reaches_pair false bytes ls = tt
 
-reaches_one : (b : ℕ) (more : List ℕ) → (b == 10) ≡ false → Reaches 1 (lines (b ∷ more))
+pub reaches_one : (b : ℕ) (more : List ℕ) → (b == 10) ≡ false → Reaches 1 (lines (b ∷ more))
 reaches_one b [] e = subst (Reaches 1) (sym (lines_single b ∙ ap (λ t. cond t Stray (Open (b ∷ []))) e)) (reaches_none_more b) where
   reaches_none_more : (b : ℕ) → Reaches 1 (Open (b ∷ []))
   reaches_none_more b = omega arith
@@ -97,7 +97,7 @@ lines_grow (b ∷ c ∷ bytes) more =
     ]
 
 -- a line that is too long for the header part
-header_full : (n taken : ℕ) (told : Option ℕ) (ls : Lines) → Reaches n ls → 4096 ≤ taken + n → header_of taken told ls ≡ Faulty BadHeader
+pub header_full : (n taken : ℕ) (told : Option ℕ) (ls : Lines) → Reaches n ls → 4096 ≤ taken + n → header_of taken told ls ≡ Faulty BadHeader
 header_full n taken told (Line [] rest later) h e = ap (λ t. cond t (ended_header told rest) (Faulty BadHeader)) (lt-leb (taken + 2) 4096 (omega arith))
 header_full n taken told (Line (b ∷ text) rest later) h e =
     ap (λ t. cond t (after_line (line_length told (b ∷ text)) (λ known. header_of (taken + length (b ∷ text) + 2) known later)) (Faulty BadHeader)) (le-ltb (taken + length (b ∷ text) + 2) 4096 (omega arith))

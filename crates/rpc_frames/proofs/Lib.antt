@@ -7,3 +7,4 @@ pub mod StageLemmas
 pub mod AnswerLemmas
 pub mod WriteLemmas
 pub mod GrammarLemmas
+pub mod FaultLemmas

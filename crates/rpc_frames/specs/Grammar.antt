@@ -1,8 +1,10 @@
 -- The grammar of frames, as a relation between bytes and what they spell.
-use Rattle.std.specs.Prelude.{◌≡◌, ℕ, ◌+◌, ◌<◌, ◌≤◌, Bool, true, not, ◌&&◌, Option, None, Some, Ok, List, [], ◌∷◌, ◌++◌, length, map}
+use Rattle.std.specs.Prelude.{◌≡◌, ℕ, ◌+◌, ◌<◌, ◌≤◌, Bool, true, false, not, ◌==◌, ◌&&◌, Option, None, Some, Ok, Err, List, [], ◌∷◌, ◌++◌, length, map}
 use Rattle.std.specs.List.{list_all, filter, flat_map, AllByRecursion}
 use Rattle.rpc_frames.specs.Lines.{is_text}
-use Rattle.rpc_frames.specs.Fields.{is_colon, is_length_name, value_length}
+use Rattle.rpc_frames.specs.declared.faults.FrameFault.{FrameFault}
+use Rattle.rpc_frames.specs.declared.faults.FrameFault.TheVariants.{NoLength, BadHeader}
+use Rattle.rpc_frames.specs.Fields.{is_colon, is_length_name, value_length, line_length}
 
 -- a header line: a name and a value
 pub record HeaderLine : Type 0 where
@@ -48,3 +50,35 @@ pub record BeginsWithFrame (bytes body rest : List ℕ) : Type 0 where
   pub lines : AreHeaderLines head (Some (length body))
   pub within : length head + 2 ≤ 4096
   pub parts : bytes ≡ head ++ 13 ∷ 10 ∷ (body ++ rest)
+
+-- a line whose end hasn't come, or the end of a line that isn't empty
+abbrev pub IsUnended : List ℕ → List ℕ → Type 0
+IsUnended text [] = Unit {0}
+IsUnended text (b ∷ []) = b ≡ 13
+IsUnended text (b ∷ c ∷ []) = (b ≡ 13) × (c ≡ 10) × (0 < length text)
+IsUnended text (b ∷ c ∷ d ∷ more) = ⊥
+
+-- after header lines of this size that told a length or none, the last byte of a text and this tail shows the fault
+pub data Shows (fault : FrameFault) (told : Option ℕ) (size : ℕ) (text tail : List ℕ) : Type 0 where
+  -- the empty line comes, and no length was told
+  Untold : fault ≡ NoLength → told ≡ None → text ≡ [] → tail ≡ 13 ∷ 10 ∷ [] → size + 2 ≤ 4096 → Shows fault told size text tail
+  -- the line feed ends a line that is no header line or gives no good length
+  BadLine : line_length told text ≡ Err fault → 0 < length text → tail ≡ 13 ∷ 10 ∷ [] → size + length text + 2 < 4096 → Shows fault told size text tail
+  -- a line feed is out of place
+  LineFeed : fault ≡ BadHeader → tail ≡ 10 ∷ [] → size + length text + 1 ≤ 4096 → Shows fault told size text tail
+  -- a carriage return is, as the byte after it shows
+  Return : fault ≡ BadHeader → (b : ℕ) → (b == 10) ≡ false → tail ≡ 13 ∷ b ∷ [] → size + length text + 2 ≤ 4096 → Shows fault told size text tail
+  -- the 4096th byte comes in a line's text, as its CR, or as the LF of a line that isn't empty
+  Overlong : fault ≡ BadHeader → size < 4096 → size + length text + length tail ≡ 4096 → IsUnended text tail → Shows fault told size text tail
+
+-- the bytes begin with header lines and then one byte after another up to the one that shows the fault
+pub record BeginsWithFault (bytes : List ℕ) (fault : FrameFault) : Type 0 where
+  pub head : List ℕ
+  pub told : Option ℕ
+  pub text : List ℕ
+  pub tail : List ℕ
+  pub rest : List ℕ
+  pub lines : AreHeaderLines head told
+  pub all_text : list_all is_text text ≡ true
+  pub parts : bytes ≡ head ++ (text ++ (tail ++ rest))
+  pub shows : Shows fault told (length head) text tail

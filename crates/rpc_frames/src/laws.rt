@@ -1,8 +1,9 @@
 //! Laws of the meaning of a stream, each the contract of a function that does nothing.
 ghost use Rattle.std.specs.Prelude.{◌≡◌, ◌≤◌, ℕ, List, [], ◌++◌, length};
 ghost use Rattle.std.specs.List.{concat, flat_map, All};
-ghost use Rattle.rpc_frames.specs.Frames.{Frame, front, frames, framed, with_bodies, after_pieces};
-ghost use Rattle.rpc_frames.specs.Grammar.{BeginsWithFrame};
+ghost use Rattle.rpc_frames.specs.declared.faults.FrameFault.{FrameFault};
+ghost use Rattle.rpc_frames.specs.Frames.{Frame, Broken, front, frames, framed, with_bodies, after_pieces};
+ghost use Rattle.rpc_frames.specs.Grammar.{BeginsWithFrame, BeginsWithFault};
 
 /// However a stream is cut into pieces, its bodies and its end are those of all its bytes.
 pub fn any_cut()
@@ -30,5 +31,11 @@ pub fn reads_all_that_is_written()
 pub fn a_frame_is_what_is_spelled_so()
     ensures read { (bytes body rest : List ℕ) → front bytes ≡ Frame body rest → BeginsWithFrame bytes body rest }
     ensures spelled { (bytes body rest : List ℕ) → BeginsWithFrame bytes body rest → front bytes ≡ Frame body rest }
-{
-}
+{}
+
+/// The bytes begin with a fault exactly where header lines and then the bytes up to one that shows it
+/// do.
+pub fn a_fault_is_what_shows_it()
+    ensures read { (bytes : List ℕ) (fault : FrameFault) → front bytes ≡ Broken fault → BeginsWithFault bytes fault }
+    ensures shown { (bytes : List ℕ) (fault : FrameFault) → BeginsWithFault bytes fault → front bytes ≡ Broken fault }
+{}

@@ -14,6 +14,9 @@ mod writing;
 pub use faults::{FrameFault, FrameStop};
 pub use fields::BODY_LIMIT;
 pub use header::HEADER_LIMIT;
-pub use laws::{a_frame_is_what_is_spelled_so, any_cut, piece_after_piece, reads_all_that_is_written, reads_what_is_written};
+pub use laws::{
+    a_fault_is_what_shows_it, a_frame_is_what_is_spelled_so, any_cut, piece_after_piece,
+    reads_all_that_is_written, reads_what_is_written,
+};
 pub use stream::Frames;
 pub use writing::write_frame;

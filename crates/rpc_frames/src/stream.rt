@@ -11,8 +11,10 @@ use std::marker::Model;
 
 /// Takes a stream of bytes in pieces, and gives the bodies of its frames.
 ///
-/// Each byte is looked at once, however the stream is cut. The bytes of bodies given are dropped
-/// once they are half of what is held, when the next piece comes.
+/// Each byte is looked at once, however the stream is cut. When a piece comes, the bytes of frames
+/// given are dropped, unless what is held beside them is longer than both: so the work grows as the
+/// bytes do, and a caller who takes all bodies before each piece holds less than a frame and the
+/// piece.
 #[derive(Drop)]
 pub struct Frames {
     buffer: Vec<u8>,
@@ -73,11 +75,11 @@ impl Frames {
         &self.buffer[self.start..]
     }
 
-    // Moving the bytes still held costs no more than was used up.
-    fn drop_used(&mut self)
+    // Moving the bytes still held costs no more than was used up, or than the next piece has.
+    fn drop_used(&mut self, next_piece: usize)
         ensures { self.new ≡ self.old }
     {
-        if self.start > 0 && self.held().len() <= self.start {
+        if self.start > 0 && self.held().len() <= self.start.max(next_piece) {
             self.buffer.drain(..self.start);
             self.start = 0;
         }
@@ -88,7 +90,7 @@ impl Frames {
         ensures ok { OnOk result (self.new ≡ record { bytes = self.old.bytes ++ piece.now; fault = self.old.fault }) }
         ensures err { OnErr result (self.new ≡ self.old) }
     {
-        self.drop_used();
+        self.drop_used(piece.len());
         self.buffer.extend_from_slice(piece)?;
         Ok(())
     }
