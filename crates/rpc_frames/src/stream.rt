@@ -11,10 +11,9 @@ use std::marker::Model;
 
 /// Takes a stream of bytes in pieces, and gives the bodies of its frames.
 ///
-/// Each byte is looked at once, however the stream is cut. When a piece comes, the bytes of frames
-/// given are dropped, unless what is held beside them is longer than both: so the work grows as the
-/// bytes do, and a caller who takes all bodies before each piece holds less than a frame and the
-/// piece.
+/// Each byte is looked at once, however the stream is cut, and the bytes of frames given are dropped
+/// where `next` gives none, or once they are half of what is held. So the work grows as the bytes do,
+/// and a caller who takes bodies until there is none holds less than a frame, and then the next piece.
 #[derive(Drop)]
 pub struct Frames {
     buffer: Vec<u8>,
@@ -75,13 +74,21 @@ impl Frames {
         &self.buffer[self.start..]
     }
 
-    // Moving the bytes still held costs no more than was used up, or than the next piece has.
-    fn drop_used(&mut self, next_piece: usize)
+    fn drop_used(&mut self)
         ensures { self.new ≡ self.old }
     {
-        if self.start > 0 && self.held().len() <= self.start.max(next_piece) {
+        if self.start > 0 {
             self.buffer.drain(..self.start);
             self.start = 0;
+        }
+    }
+
+    // Moving the bytes still held then costs no more than was used up.
+    fn drop_used_half(&mut self)
+        ensures { self.new ≡ self.old }
+    {
+        if self.held().len() <= self.start {
+            self.drop_used();
         }
     }
 
@@ -90,7 +97,7 @@ impl Frames {
         ensures ok { OnOk result (self.new ≡ record { bytes = self.old.bytes ++ piece.now; fault = self.old.fault }) }
         ensures err { OnErr result (self.new ≡ self.old) }
     {
-        self.drop_used(piece.len());
+        self.drop_used_half();
         self.buffer.extend_from_slice(piece)?;
         Ok(())
     }
@@ -130,6 +137,7 @@ impl Frames {
     {
         let held = self.held();
         if held.len() - from < told {
+            self.drop_used();
             return Ok(None);
         }
         let body = Bytes::copy(alloc, &held[from..from + told])?;
@@ -143,7 +151,10 @@ impl Frames {
         let stage = self.settled();
         self.set_stage(stage);
         match stage {
-            Stage::Header(_) => Ok(None),
+            Stage::Header(_) => {
+                self.drop_used();
+                Ok(None)
+            }
             Stage::Body(from, told) => self.take_body(alloc, from, told as usize),
             Stage::Broken(fault) => Err(FrameStop::Fault(fault)),
         }

@@ -10,7 +10,7 @@ returns-then-held-from c = (
   front_less c.args.self.now.bytes (drop c.args.from c.args.self.now.bytes) c.args.told c.requires.whole
       (omega (arith, ap length c.held-held.ensures, length-drop c.args.from c.args.self.now.bytes)),
   c.requires.fault,
-  refl,
+  c.drop_used.ensures,
 )
 
 pub returns-in_err-body : goal.returns-in_err-body
