@@ -54,7 +54,7 @@ fn trimmed_value(value: &[u8]) -> Result<u32, FrameFault>
     Ok(number)
 }
 
-fn value(value: &[u8]) -> Result<u32, FrameFault>
+fn read_value(value: &[u8]) -> Result<u32, FrameFault>
     ensures { result ≡ value_length value.now }
 {
     trimmed_value(&value[leading_spaces(value)..])
@@ -66,8 +66,8 @@ fn is_content_length(name: &[u8]) -> bool
     name.eq_ignore_ascii_case(b"content-length")
 }
 
-fn field(told: Option<u32>, name: &[u8], value_bytes: &[u8]) -> Result<Option<u32>, FrameFault>
-    ensures { result ≡ field_length told name.now value_bytes.now }
+fn field(told: Option<u32>, name: &[u8], value: &[u8]) -> Result<Option<u32>, FrameFault>
+    ensures { result ≡ field_length told name.now value.now }
 {
     if name.is_empty() {
         return Err(FrameFault::BadHeader);
@@ -75,7 +75,7 @@ fn field(told: Option<u32>, name: &[u8], value_bytes: &[u8]) -> Result<Option<u3
     if !is_content_length(name) {
         return Ok(told);
     }
-    let given = value(value_bytes);
+    let given = read_value(value);
     match (told, given) {
         (Some(_), _) => Err(FrameFault::BadHeader),
         (None, Ok(number)) => Ok(Some(number)),
