@@ -1,0 +1,6 @@
+pub mod Sorts
+pub mod Tree
+pub mod TreeCode
+pub mod Nodes
+pub mod Places
+pub mod Answers
