@@ -2,6 +2,7 @@
 //! are written about.
 #![tactic(auto)]
 
+mod lift;
 mod measures;
 mod sorts;
 mod stops;
