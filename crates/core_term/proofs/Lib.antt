@@ -1,2 +1,5 @@
 pub mod Lifts
 pub mod Bounds
+pub mod Substitutions
+pub mod Sizes
+pub mod FreeVariables

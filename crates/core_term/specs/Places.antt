@@ -1,4 +1,4 @@
-use Rattle.std.specs.Prelude.{ℕ, ◌+◌, ◌-◌, nat_le, nat_lt, if◌then◌else◌}
+use Rattle.std.specs.Prelude.{ℕ, ◌+◌, ◌-◌, nat_le, nat_lt, ◌==◌, if◌then◌else◌}
 use Rattle.core_term.specs.Tree.{Tree, Variable, Universe, Const, Product, Lambda, Let, Apply}
 
 -- the term after room for `by` variables was made at `from`
@@ -27,3 +27,13 @@ substituted (Lambda n a b) value at =
 substituted (Let n a t b) value at =
     Let n (substituted a value at) (substituted t value at) (substituted b (lifted value 1 0) (at + 1))
 substituted (Apply f a) value at = Apply (substituted f value at) (substituted a value at)
+
+-- how many times the variable at `at` stands in a term
+abbrev pub occurrences : Tree → ℕ → ℕ
+occurrences (Variable i) at = if i == at then 1 else 0
+occurrences (Universe s) at = 0
+occurrences (Const c) at = 0
+occurrences (Product n a b) at = occurrences a at + occurrences b (at + 1)
+occurrences (Lambda n a b) at = occurrences a at + occurrences b (at + 1)
+occurrences (Let n a t b) at = occurrences a at + occurrences t at + occurrences b (at + 1)
+occurrences (Apply f a) at = occurrences f at + occurrences a at

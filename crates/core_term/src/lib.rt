@@ -6,6 +6,7 @@ mod lift;
 mod measures;
 mod sorts;
 mod stops;
+mod subst;
 mod terms;
 
 pub use measures::Measure;

@@ -10,7 +10,7 @@ use std::alloc::Global;
 use std::marker::Model;
 use std::rc::Rc;
 
-const SIZE_LIMIT: u32 = 1048576;
+pub(crate) const SIZE_LIMIT: u32 = 1048576;
 const DEPTH_LIMIT: u32 = 1000;
 
 /// A term with de Bruijn indices, which contracts see as a tree. Its subterms are shared.
