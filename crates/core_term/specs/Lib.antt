@@ -4,3 +4,5 @@ pub mod TreeCode
 pub mod Nodes
 pub mod Places
 pub mod Answers
+pub mod SortLaws
+pub mod TermLaws
