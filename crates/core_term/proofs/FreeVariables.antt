@@ -64,3 +64,14 @@ pub numbered-substituted : (t v : Tree) (at n : ℕ) → at ≤ n → free_bound
 numbered-substituted t v at n within below value_below fits =
     let deeper = depth-substituted t v at in
     numbered (substituted t v at) n (free_bound-substituted t v at n within below value_below) (omega arith)
+
+-- no free variable stands past the last index
+pub free_bound-numbered : (t : Tree) → IsNumbered t → free_bound t ≤ 2 ^ 32
+free_bound-numbered (Variable i) fits = omega arith
+free_bound-numbered (Universe s) fits = omega arith
+free_bound-numbered (Const c) fits = omega arith
+free_bound-numbered (Product k a b) fits = omega (arith, free_bound-numbered a fits.0, free_bound-numbered b fits.1)
+free_bound-numbered (Lambda k a b) fits = omega (arith, free_bound-numbered a fits.0, free_bound-numbered b fits.1)
+free_bound-numbered (Let k a t b) fits =
+    omega (arith, free_bound-numbered a fits.0, free_bound-numbered t fits.1, free_bound-numbered b fits.2)
+free_bound-numbered (Apply f a) fits = omega (arith, free_bound-numbered f fits.0, free_bound-numbered a fits.1)

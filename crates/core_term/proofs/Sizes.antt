@@ -35,10 +35,10 @@ pub size-substituted : (t v : Tree) (at : ℕ) →
 size-substituted (Variable i) v at = size-put i v at
 size-substituted (Universe s) v at = omega (arith, zero-mul (size_of v))
 size-substituted (Const c) v at = omega (arith, zero-mul (size_of v))
-size-substituted (Product n a b) v at = 
+size-substituted (Product n a b) v at =
     let both = sum (size_of (substituted a v at)) (size_of (substituted b (lifted v 1 0) (at + 1))) (size_of a) (size_of b) (occurrences a at) (occurrences b (at + 1)) (size_of v) (size_of (lifted v 1 0)) (size-substituted a v at) (size-substituted b (lifted v 1 0) (at + 1)) (size-lifted v 1 0) in
     omega arith
-size-substituted (Lambda n a b) v at = 
+size-substituted (Lambda n a b) v at =
     let both = sum (size_of (substituted a v at)) (size_of (substituted b (lifted v 1 0) (at + 1))) (size_of a) (size_of b) (occurrences a at) (occurrences b (at + 1)) (size_of v) (size_of (lifted v 1 0)) (size-substituted a v at) (size-substituted b (lifted v 1 0) (at + 1)) (size-lifted v 1 0) in
     omega arith
 size-substituted (Let n a t b) v at =

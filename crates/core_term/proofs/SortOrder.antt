@@ -62,8 +62,8 @@ greater_monotone : (a b c d : Sort) → IsTrue (sort_below a c) → IsTrue (sort
     IsTrue (sort_below (greater_sort a b) (greater_sort c d))
 greater_monotone a b c d h k =
     below_above a b (greater_sort c d)
-        (below_through a c (greater_sort c d) h (above_left c d))
-        (below_through b d (greater_sort c d) k (above_right c d))
+    (below_through a c (greater_sort c d) h (above_left c d))
+    (below_through b d (greater_sort c d) k (above_right c d))
 
 pub product_monotone : ProductIsMonotone
 product_monotone a PropSort c d h k = grind arith

@@ -58,10 +58,12 @@ put-lifted_below : (i : ℕ) (v : Tree) (n f at h : ℕ) → f ≤ at → h ≡ 
     lifted (put_for i v at) n f ≡ put_for (if nat_le f i then i + n else i) (lifted v n f) h
 put-lifted_below i v n f at h le is =
     elim (cases_order i at) [
-        inl here ↦ ap (λ t. lifted t n f) (put-here i v at here) ∙ sym (put-here (if nat_le f i then i + n else i) (lifted v n f) h (grind (arith, nat_tests)))
+      | inl here ↦ ap (λ t. lifted t n f) (put-here i v at here) ∙ sym (put-here (if nat_le f i then i + n else i) (lifted v n f) h (grind (arith, nat_tests)))
       | inr apart ↦ elim apart [
-            inl below ↦ ap (λ t. lifted t n f) (put-below i v at below) ∙ sym (put-below (if nat_le f i then i + n else i) (lifted v n f) h (grind (arith, nat_tests)))
-          | inr above ↦ ap (λ t. lifted t n f) (put-above i v at above) ∙ (ap Variable (grind (arith, nat_tests)) ∙ sym (put-above (if nat_le f i then i + n else i) (lifted v n f) h (grind (arith, nat_tests)))) ] ]
+        | inl below ↦ ap (λ t. lifted t n f) (put-below i v at below) ∙ sym (put-below (if nat_le f i then i + n else i) (lifted v n f) h (grind (arith, nat_tests)))
+        | inr above ↦ ap (λ t. lifted t n f) (put-above i v at above) ∙ (ap Variable (grind (arith, nat_tests)) ∙ sym (put-above (if nat_le f i then i + n else i) (lifted v n f) h (grind (arith, nat_tests))))
+      ]
+    ]
 
 -- room made at or below the place of a substitution can be made before it
 pub lifted_below-substituted : (t v : Tree) (n f at h : ℕ) → f ≤ at → h ≡ at + n →
@@ -70,18 +72,24 @@ lifted_below-substituted (Variable i) v n f at h le is = put-lifted_below i v n 
 lifted_below-substituted (Universe s) v n f at h le is = refl
 lifted_below-substituted (Const c) v n f at h le is = refl
 lifted_below-substituted (Product k a b) v n f at h le is =
-    cc (lifted_below-substituted a v n f at h le is,
-        lifted_below-substituted b (lifted v 1 0) n (f + 1) (at + 1) (h + 1) (omega arith) (omega arith),
-        lifted-past v 1 n 0 f (f + 1) (omega arith) refl)
+    cc (
+      lifted_below-substituted a v n f at h le is,
+      lifted_below-substituted b (lifted v 1 0) n (f + 1) (at + 1) (h + 1) (omega arith) (omega arith),
+      lifted-past v 1 n 0 f (f + 1) (omega arith) refl,
+    )
 lifted_below-substituted (Lambda k a b) v n f at h le is =
-    cc (lifted_below-substituted a v n f at h le is,
-        lifted_below-substituted b (lifted v 1 0) n (f + 1) (at + 1) (h + 1) (omega arith) (omega arith),
-        lifted-past v 1 n 0 f (f + 1) (omega arith) refl)
+    cc (
+      lifted_below-substituted a v n f at h le is,
+      lifted_below-substituted b (lifted v 1 0) n (f + 1) (at + 1) (h + 1) (omega arith) (omega arith),
+      lifted-past v 1 n 0 f (f + 1) (omega arith) refl,
+    )
 lifted_below-substituted (Let k a t b) v n f at h le is =
-    cc (lifted_below-substituted a v n f at h le is,
-        lifted_below-substituted t v n f at h le is,
-        lifted_below-substituted b (lifted v 1 0) n (f + 1) (at + 1) (h + 1) (omega arith) (omega arith),
-        lifted-past v 1 n 0 f (f + 1) (omega arith) refl)
+    cc (
+      lifted_below-substituted a v n f at h le is,
+      lifted_below-substituted t v n f at h le is,
+      lifted_below-substituted b (lifted v 1 0) n (f + 1) (at + 1) (h + 1) (omega arith) (omega arith),
+      lifted-past v 1 n 0 f (f + 1) (omega arith) refl,
+    )
 lifted_below-substituted (Apply g a) v n f at h le is =
     cc (lifted_below-substituted g v n f at h le is, lifted_below-substituted a v n f at h le is)
 
@@ -89,10 +97,12 @@ put-lifted_above : (i : ℕ) (v : Tree) (n f at g : ℕ) → at ≤ f → g ≡ 
     lifted (put_for i v at) n f ≡ put_for (if nat_le g i then i + n else i) (lifted v n f) at
 put-lifted_above i v n f at g le is =
     elim (cases_order i at) [
-        inl here ↦ ap (λ t. lifted t n f) (put-here i v at here) ∙ sym (put-here (if nat_le g i then i + n else i) (lifted v n f) at (grind (arith, nat_tests)))
+      | inl here ↦ ap (λ t. lifted t n f) (put-here i v at here) ∙ sym (put-here (if nat_le g i then i + n else i) (lifted v n f) at (grind (arith, nat_tests)))
       | inr apart ↦ elim apart [
-            inl below ↦ ap (λ t. lifted t n f) (put-below i v at below) ∙ (ap Variable (grind (arith, nat_tests)) ∙ sym (put-below (if nat_le g i then i + n else i) (lifted v n f) at (grind (arith, nat_tests))))
-          | inr above ↦ ap (λ t. lifted t n f) (put-above i v at above) ∙ (ap Variable (grind (arith, nat_tests)) ∙ sym (put-above (if nat_le g i then i + n else i) (lifted v n f) at (grind (arith, nat_tests)))) ] ]
+        | inl below ↦ ap (λ t. lifted t n f) (put-below i v at below) ∙ (ap Variable (grind (arith, nat_tests)) ∙ sym (put-below (if nat_le g i then i + n else i) (lifted v n f) at (grind (arith, nat_tests))))
+        | inr above ↦ ap (λ t. lifted t n f) (put-above i v at above) ∙ (ap Variable (grind (arith, nat_tests)) ∙ sym (put-above (if nat_le g i then i + n else i) (lifted v n f) at (grind (arith, nat_tests))))
+      ]
+    ]
 
 -- room made at or above the place of a substitution can be made before it, one place higher
 pub lifted_above-substituted : (t v : Tree) (n f at g : ℕ) → at ≤ f → g ≡ f + 1 →
@@ -101,18 +111,24 @@ lifted_above-substituted (Variable i) v n f at g le is = put-lifted_above i v n 
 lifted_above-substituted (Universe s) v n f at g le is = refl
 lifted_above-substituted (Const c) v n f at g le is = refl
 lifted_above-substituted (Product k a b) v n f at g le is =
-    cc (lifted_above-substituted a v n f at g le is,
-        lifted_above-substituted b (lifted v 1 0) n (f + 1) (at + 1) (g + 1) (omega arith) (omega arith),
-        lifted-past v 1 n 0 f (f + 1) (omega arith) refl)
+    cc (
+      lifted_above-substituted a v n f at g le is,
+      lifted_above-substituted b (lifted v 1 0) n (f + 1) (at + 1) (g + 1) (omega arith) (omega arith),
+      lifted-past v 1 n 0 f (f + 1) (omega arith) refl,
+    )
 lifted_above-substituted (Lambda k a b) v n f at g le is =
-    cc (lifted_above-substituted a v n f at g le is,
-        lifted_above-substituted b (lifted v 1 0) n (f + 1) (at + 1) (g + 1) (omega arith) (omega arith),
-        lifted-past v 1 n 0 f (f + 1) (omega arith) refl)
+    cc (
+      lifted_above-substituted a v n f at g le is,
+      lifted_above-substituted b (lifted v 1 0) n (f + 1) (at + 1) (g + 1) (omega arith) (omega arith),
+      lifted-past v 1 n 0 f (f + 1) (omega arith) refl,
+    )
 lifted_above-substituted (Let k a t b) v n f at g le is =
-    cc (lifted_above-substituted a v n f at g le is,
-        lifted_above-substituted t v n f at g le is,
-        lifted_above-substituted b (lifted v 1 0) n (f + 1) (at + 1) (g + 1) (omega arith) (omega arith),
-        lifted-past v 1 n 0 f (f + 1) (omega arith) refl)
+    cc (
+      lifted_above-substituted a v n f at g le is,
+      lifted_above-substituted t v n f at g le is,
+      lifted_above-substituted b (lifted v 1 0) n (f + 1) (at + 1) (g + 1) (omega arith) (omega arith),
+      lifted-past v 1 n 0 f (f + 1) (omega arith) refl,
+    )
 lifted_above-substituted (Apply h a) v n f at g le is =
     cc (lifted_above-substituted h v n f at g le is, lifted_above-substituted a v n f at g le is)
 
@@ -125,24 +141,28 @@ put-put : (i : ℕ) (v w : Tree) (at after g : ℕ) → at ≤ after → g ≡ a
     substituted (put_for i v at) w after ≡ substituted (put_for i (lifted w 1 at) g) (substituted v w after) at
 put-put i v w at after g le is =
     elim (cases_order i at) [
-        inl here ↦
-            ap (λ t. substituted t w after) (put-here i v at here) ∙ sym (ap (λ t. substituted t (substituted v w after) at) (put-below i (lifted w 1 at) g (omega arith)) ∙ put-here i (substituted v w after) at here)
+      | inl here ↦
+          ap (λ t. substituted t w after) (put-here i v at here) ∙ sym (ap (λ t. substituted t (substituted v w after) at) (put-below i (lifted w 1 at) g (omega arith)) ∙ put-here i (substituted v w after) at here)
       | inr apart ↦ elim apart [
-            inl below ↦
-                ap (λ t. substituted t w after) (put-below i v at below) ∙ (put-below i w after (omega arith) ∙ sym (ap (λ t. substituted t (substituted v w after) at) (put-below i (lifted w 1 at) g (omega arith)) ∙ put-below i (substituted v w after) at below))
-          | inr above ↦ ap (λ t. substituted t w after) (put-above i v at above) ∙ put-both i v w at after g le is above ] ]
+        | inl below ↦
+            ap (λ t. substituted t w after) (put-below i v at below) ∙ (put-below i w after (omega arith) ∙ sym (ap (λ t. substituted t (substituted v w after) at) (put-below i (lifted w 1 at) g (omega arith)) ∙ put-below i (substituted v w after) at below))
+        | inr above ↦ ap (λ t. substituted t w after) (put-above i v at above) ∙ put-both i v w at after g le is above
+      ]
+    ]
   where
     put-both : (i : ℕ) (v w : Tree) (at after g : ℕ) → at ≤ after → g ≡ after + 1 → at < i →
         substituted (Variable (i - 1)) w after ≡ substituted (put_for i (lifted w 1 at) g) (substituted v w after) at
     put-both i v w at after g le is above =
         elim (cases_order i g) [
-            inl here ↦
-                put-here (i - 1) w after (omega arith) ∙ sym (ap (λ t. substituted t (substituted v w after) at) (put-here i (lifted w 1 at) g here) ∙ substituted-room w (substituted v w after) at)
+          | inl here ↦
+              put-here (i - 1) w after (omega arith) ∙ sym (ap (λ t. substituted t (substituted v w after) at) (put-here i (lifted w 1 at) g here) ∙ substituted-room w (substituted v w after) at)
           | inr apart ↦ elim apart [
-                inl below ↦
-                    put-below (i - 1) w after (omega arith) ∙ sym (ap (λ t. substituted t (substituted v w after) at) (put-below i (lifted w 1 at) g below) ∙ put-above i (substituted v w after) at above)
-              | inr higher ↦
-                    put-above (i - 1) w after (omega arith) ∙ sym (ap (λ t. substituted t (substituted v w after) at) (put-above i (lifted w 1 at) g higher) ∙ put-above (i - 1) (substituted v w after) at (omega arith)) ] ]
+            | inl below ↦
+                put-below (i - 1) w after (omega arith) ∙ sym (ap (λ t. substituted t (substituted v w after) at) (put-below i (lifted w 1 at) g below) ∙ put-above i (substituted v w after) at above)
+            | inr higher ↦
+                put-above (i - 1) w after (omega arith) ∙ sym (ap (λ t. substituted t (substituted v w after) at) (put-above i (lifted w 1 at) g higher) ∙ put-above (i - 1) (substituted v w after) at (omega arith))
+          ]
+        ]
 
 -- two substitutions in the other order: the lower value takes part in the higher one
 pub substituted-substituted : (t v w : Tree) (at after g : ℕ) → at ≤ after → g ≡ after + 1 →
@@ -151,21 +171,27 @@ substituted-substituted (Variable i) v w at after g le is = put-put i v w at aft
 substituted-substituted (Universe s) v w at after g le is = refl
 substituted-substituted (Const c) v w at after g le is = refl
 substituted-substituted (Product k a b) v w at after g le is =
-    cc (substituted-substituted a v w at after g le is,
-        substituted-substituted b (lifted v 1 0) (lifted w 1 0) (at + 1) (after + 1) (g + 1) (omega arith) (omega arith),
-        lifted-past w 1 1 0 at (at + 1) (omega arith) refl,
-        lifted_below-substituted v w 1 0 after (after + 1) (omega arith) refl)
+    cc (
+      substituted-substituted a v w at after g le is,
+      substituted-substituted b (lifted v 1 0) (lifted w 1 0) (at + 1) (after + 1) (g + 1) (omega arith) (omega arith),
+      lifted-past w 1 1 0 at (at + 1) (omega arith) refl,
+      lifted_below-substituted v w 1 0 after (after + 1) (omega arith) refl,
+    )
 substituted-substituted (Lambda k a b) v w at after g le is =
-    cc (substituted-substituted a v w at after g le is,
-        substituted-substituted b (lifted v 1 0) (lifted w 1 0) (at + 1) (after + 1) (g + 1) (omega arith) (omega arith),
-        lifted-past w 1 1 0 at (at + 1) (omega arith) refl,
-        lifted_below-substituted v w 1 0 after (after + 1) (omega arith) refl)
+    cc (
+      substituted-substituted a v w at after g le is,
+      substituted-substituted b (lifted v 1 0) (lifted w 1 0) (at + 1) (after + 1) (g + 1) (omega arith) (omega arith),
+      lifted-past w 1 1 0 at (at + 1) (omega arith) refl,
+      lifted_below-substituted v w 1 0 after (after + 1) (omega arith) refl,
+    )
 substituted-substituted (Let k a t b) v w at after g le is =
-    cc (substituted-substituted a v w at after g le is,
-        substituted-substituted t v w at after g le is,
-        substituted-substituted b (lifted v 1 0) (lifted w 1 0) (at + 1) (after + 1) (g + 1) (omega arith) (omega arith),
-        lifted-past w 1 1 0 at (at + 1) (omega arith) refl,
-        lifted_below-substituted v w 1 0 after (after + 1) (omega arith) refl)
+    cc (
+      substituted-substituted a v w at after g le is,
+      substituted-substituted t v w at after g le is,
+      substituted-substituted b (lifted v 1 0) (lifted w 1 0) (at + 1) (after + 1) (g + 1) (omega arith) (omega arith),
+      lifted-past w 1 1 0 at (at + 1) (omega arith) refl,
+      lifted_below-substituted v w 1 0 after (after + 1) (omega arith) refl,
+    )
 substituted-substituted (Apply f a) v w at after g le is =
     cc (substituted-substituted f v w at after g le is, substituted-substituted a v w at after g le is)
 

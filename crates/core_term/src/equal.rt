@@ -29,10 +29,14 @@ impl Term {
             ) => a.equal(c) && b.equal(d),
             (
                 Node::Lam {
-                    domain: a, body: b, ..
+                    domain: a,
+                    body: b,
+                    ..
                 },
                 Node::Lam {
-                    domain: c, body: d, ..
+                    domain: c,
+                    body: d,
+                    ..
                 },
             ) => a.equal(c) && b.equal(d),
             (

@@ -9,37 +9,31 @@ pub fn law_of_sorts()
     ensures order { IsSortOrder }
     ensures monotone { ProductIsMonotone }
     ensures levels { ProductKeepsLevels }
-{
-}
+{}
 
 /// How lifts come together.
 pub fn law_of_lifts()
     ensures { LiftsCommute }
-{
-}
+{}
 
 /// A term without the variables that a lift or a substitution is about is left alone.
 pub fn law_of_closed_terms()
     ensures { LeavesAlone }
-{
-}
+{}
 
 /// A value put in for the variable that a lift made room for gives the term back.
 pub fn law_of_room()
     ensures { SubstUndoesLift }
-{
-}
+{}
 
 /// How lifts and substitutions come together.
 pub fn law_of_substitutions()
     ensures { SubstsCommute }
-{
-}
+{}
 
 /// What lifts and substitutions do to size, depth and free variables, and so when they may be
 /// called.
 pub fn law_of_measures()
     ensures measures { KeepMeasures }
     ensures conditions { MayBeCalled }
-{
-}
+{}

@@ -43,11 +43,16 @@ impl Term {
             Node::Var(i) => u32::from(u64::from(*i) == at),
             Node::Sorted(_) | Node::Constant(_) => 0,
             Node::Prod {
-                domain, codomain, ..
+                domain,
+                codomain,
+                ..
             } => domain.occurrences(at) + codomain.occurrences(at + 1),
             Node::Lam { domain, body, .. } => domain.occurrences(at) + body.occurrences(at + 1),
             Node::LetIn {
-                ty, value, body, ..
+                ty,
+                value,
+                body,
+                ..
             } => ty.occurrences(at) + value.occurrences(at) + body.occurrences(at + 1),
             Node::App { function, argument } => function.occurrences(at) + argument.occurrences(at),
         }
@@ -55,7 +60,13 @@ impl Term {
 
     /// Below so many binders, which the value is lifted over where it is put in.
     #[tactic(auto, using(crate::proofs::Substitutions::lifted_binder))]
-    fn subst_under(&self, alloc: Global, value: &Term, at: u64, binders: u64) -> Result<Term, TermStop>
+    fn subst_under(
+        &self,
+        alloc: Global,
+        value: &Term,
+        at: u64,
+        binders: u64,
+    ) -> Result<Term, TermStop>
         requires numbered { IsNumbered (substituted self.now (lifted value.now binders 0) at) }
         requires within { binders ≤ at }
         ensures { Gives result (bounded (substituted self.now (lifted value.now binders 0) at)) }

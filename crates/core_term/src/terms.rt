@@ -1,4 +1,4 @@
-ghost use Rattle.std.specs.Prelude.{◌≡◌, ℕ, IfOk};
+ghost use Rattle.std.specs.Prelude.{◌≡◌, ℕ, ◌≤◌, ◌^◌, IfOk};
 ghost use Rattle.core_term.specs.Sorts.{IsSort};
 ghost use Rattle.core_term.specs.Tree.{Variable, Universe, Const, Product, Lambda, Let, Apply, size_of, depth_of, free_bound, IsTerm, IsNumbered, IsLevelled};
 ghost use Rattle.core_term.specs.Nodes.{tree_of, HasSort, Measures};
@@ -11,6 +11,7 @@ use std::marker::Model;
 use std::rc::Rc;
 
 pub(crate) const SIZE_LIMIT: u32 = 1048576;
+
 const DEPTH_LIMIT: u32 = 1000;
 
 /// A term with de Bruijn indices, which contracts see as a tree. Its subterms are shared.
@@ -198,6 +199,7 @@ impl Term {
     /// The least number above each free variable, so 0 for a closed term, in one step.
     pub fn free_bound(&self) -> u64
         ensures bound { result ≡ free_bound self.now }
+        ensures last { result ≤ 2 ^ 32 }
         ensures term { IsTerm self.now }
     {
         self.inner.measure.bound
@@ -230,11 +232,16 @@ impl Node {
             Node::Var(i) => Measure::leaf(u64::from(*i) + 1),
             Node::Sorted(_) | Node::Constant(_) => Measure::leaf(0),
             Node::Prod {
-                domain, codomain, ..
+                domain,
+                codomain,
+                ..
             } => domain.measure().with(codomain.measure().under_binder()),
             Node::Lam { domain, body, .. } => domain.measure().with(body.measure().under_binder()),
             Node::LetIn {
-                ty, value, body, ..
+                ty,
+                value,
+                body,
+                ..
             } => ty
                 .measure()
                 .beside(value.measure())
