@@ -5,7 +5,8 @@ use Rattle.core_term.specs.declared.sorts.Sort.{Sort}
 use Rattle.core_term.specs.declared.sorts.Sort.TheVariants.{PropSort, SetSort, TypeSort}
 use Rattle.core_term.specs.Tree.{Tree, Variable, Universe, Const, Product, Lambda, Let, Apply, same_sort, same_tree, size_of}
 
-both : (a b : Bool) → (a && b) ≡ true → (a ≡ true) × (b ≡ true)
+-- each part of a test that holds, holds
+pub both : (a b : Bool) → (a && b) ≡ true → (a ≡ true) × (b ≡ true)
 both true true h = (refl, refl)
 both true false h = cc
 both false b h = cc

@@ -6,3 +6,4 @@ pub mod FreeVariables
 pub mod Equality
 pub mod SortOrder
 pub mod Absent
+pub mod Unnamed

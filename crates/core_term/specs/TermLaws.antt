@@ -1,5 +1,5 @@
-use Rattle.std.specs.Prelude.{◌≡◌, ℕ, ◌+◌, ◌*◌, ◌≤◌, ◌^◌, Ok}
-use Rattle.core_term.specs.Tree.{Tree, size_of, depth_of, free_bound, IsNumbered, IsTerm}
+use Rattle.std.specs.Prelude.{◌≡◌, ℕ, ◌+◌, ◌*◌, ◌≤◌, ◌^◌, Ok, IsTrue}
+use Rattle.core_term.specs.Tree.{Tree, size_of, depth_of, free_bound, IsNumbered, IsTerm, same_tree, unnamed}
 use Rattle.core_term.specs.Places.{lifted, substituted, occurrences}
 use Rattle.core_term.specs.Answers.{bounded}
 
@@ -50,3 +50,13 @@ pub record MayBeCalled : Type 0 where
   pub lift : (t : Tree) (by from n : ℕ) → free_bound t ≤ n → n + by + depth_of t ≤ 2 ^ 32 → IsNumbered (lifted t by from)
   pub subst : (t v : Tree) (at n : ℕ) → at ≤ n → free_bound t ≤ n + 1 → free_bound v ≤ n → n + (depth_of t + depth_of v) ≤ 2 ^ 32 →
       IsNumbered (substituted t v at)
+
+-- two terms are equal where they are one term without their names, and names change nothing else
+pub record NamesAside : Type 0 where
+  pub equal : (t u : Tree) → IsTrue (same_tree t u) → unnamed t ≡ unnamed u
+  pub same : (t u : Tree) → unnamed t ≡ unnamed u → IsTrue (same_tree t u)
+  pub lift : (t : Tree) (by from : ℕ) → unnamed (lifted t by from) ≡ lifted (unnamed t) by from
+  pub subst : (t v : Tree) (at : ℕ) → unnamed (substituted t v at) ≡ substituted (unnamed t) (unnamed v) at
+  pub size : (t : Tree) → size_of (unnamed t) ≡ size_of t
+  pub depth : (t : Tree) → depth_of (unnamed t) ≡ depth_of t
+  pub bound : (t : Tree) → free_bound (unnamed t) ≡ free_bound t

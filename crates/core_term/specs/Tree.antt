@@ -1,4 +1,4 @@
-use Rattle.std.specs.Prelude.{ℕ, ◌+◌, ◌-◌, ◌^◌, ◌≤◌, ◌<◌, max, List, Bool, true, false, ◌&&◌, ◌==◌, nat_le}
+use Rattle.std.specs.Prelude.{ℕ, ◌+◌, ◌-◌, ◌^◌, ◌≤◌, ◌<◌, max, List, [], Bool, true, false, ◌&&◌, ◌==◌, nat_le}
 use Rattle.core_term.specs.declared.sorts.Sort.{Sort}
 use Rattle.core_term.specs.declared.sorts.Sort.TheVariants.{PropSort, SetSort, TypeSort}
 use Rattle.core_term.specs.Sorts.{IsSort}
@@ -91,3 +91,13 @@ same_tree (Lambda _ a b) (Lambda _ c d) = same_tree a c && same_tree b d
 same_tree (Let _ a t b) (Let _ c u d) = same_tree a c && same_tree t u && same_tree b d
 same_tree (Apply f a) (Apply g b) = same_tree f g && same_tree a b
 same_tree _ _ = false
+
+-- the term without the names of its binders
+abbrev pub unnamed : Tree → Tree
+unnamed (Variable i) = Variable i
+unnamed (Universe s) = Universe s
+unnamed (Const c) = Const c
+unnamed (Product _ a b) = Product [] (unnamed a) (unnamed b)
+unnamed (Lambda _ a b) = Lambda [] (unnamed a) (unnamed b)
+unnamed (Let _ a t b) = Let [] (unnamed a) (unnamed t) (unnamed b)
+unnamed (Apply f a) = Apply (unnamed f) (unnamed a)

@@ -2,7 +2,7 @@
 //! function holds for all terms, and does nothing.
 
 ghost use Rattle.core_term.specs.SortLaws.{IsSortOrder, ProductIsMonotone, ProductKeepsLevels};
-ghost use Rattle.core_term.specs.TermLaws.{LiftsCommute, LeavesAlone, SubstUndoesLift, SubstsCommute, KeepMeasures, MayBeCalled};
+ghost use Rattle.core_term.specs.TermLaws.{LiftsCommute, LeavesAlone, SubstUndoesLift, SubstsCommute, KeepMeasures, MayBeCalled, NamesAside};
 
 /// `sort_le` is an order, and `product_sort` goes with it.
 pub fn law_of_sorts()
@@ -36,4 +36,10 @@ pub fn law_of_substitutions()
 pub fn law_of_measures()
     ensures measures { KeepMeasures }
     ensures conditions { MayBeCalled }
+{}
+
+/// Terms are equal where they are one term without the names of their binders, and no name changes
+/// what a lift or a substitution does, nor any measure.
+pub fn law_of_names()
+    ensures { NamesAside }
 {}

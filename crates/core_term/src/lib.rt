@@ -12,7 +12,7 @@ mod subst;
 mod terms;
 
 pub use laws::{
-    law_of_closed_terms, law_of_lifts, law_of_measures, law_of_room, law_of_sorts,
+    law_of_closed_terms, law_of_lifts, law_of_measures, law_of_names, law_of_room, law_of_sorts,
     law_of_substitutions,
 };
 pub use measures::Measure;
