@@ -1,8 +1,8 @@
-use Rattle.std.specs.Prelude.{◌≡◌, ℕ, ◌+◌, ◌-◌, ◌≤◌, ◌<◌, nat_lt, ◌==◌, if◌then◌else◌, refl}
-use Rattle.std.proofs.Common.{arith, ap}
+use Rattle.std.specs.Prelude.{◌≡◌, ℕ, ◌+◌, refl}
+use Rattle.std.proofs.Common.{arith}
 use Rattle.std.proofs.lemmas.Bool.Decides.{nat_tests}
 use Rattle.core_term.specs.Tree.{Tree, Variable, Universe, Const, Product, Lambda, Let, Apply}
-use Rattle.core_term.specs.Places.{lifted, put_for, substituted, occurrences}
+use Rattle.core_term.specs.Places.{lifted, substituted, occurrences}
 
 -- what is put in for a variable that does not occur makes no difference
 pub substituted-absent : (t v w : Tree) (at : ℕ) → occurrences t at ≡ 0 → substituted t v at ≡ substituted t w at

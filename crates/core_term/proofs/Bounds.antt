@@ -1,8 +1,8 @@
-use Rattle.std.specs.Prelude.{◌≡◌, ℕ, ◌+◌, ◌-◌, ◌≤◌, ◌<◌, max, nat_le, nat_lt, if◌then◌else◌, Ok, refl}
+use Rattle.std.specs.Prelude.{◌≡◌, ℕ, ◌+◌, ◌≤◌, Ok, refl}
 use Rattle.std.proofs.Common.{arith, ap, ◌∙◌, sym}
 use Rattle.std.proofs.lemmas.Bool.Decides.{nat_tests}
 use Rattle.core_term.specs.Tree.{Tree, Variable, Universe, Const, Product, Lambda, Let, Apply, free_bound, size_of, depth_of, IsTerm}
-use Rattle.core_term.specs.Places.{lifted, substituted}
+use Rattle.core_term.specs.Places.{lifted}
 use Rattle.core_term.specs.Answers.{bounded}
 use Rattle.core_term.proofs.Lifts.{lifted-above, lifted-zero}
 

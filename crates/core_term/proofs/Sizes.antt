@@ -1,5 +1,5 @@
-use Rattle.std.specs.Prelude.{◌≡◌, ℕ, ◌+◌, ◌-◌, ◌*◌, ◌≤◌, ◌<◌, max, nat_le, nat_lt, ◌==◌, if◌then◌else◌, refl}
-use Rattle.std.proofs.Common.{arith, ap, sym, ◌∙◌, add-mul, zero-mul, one-mul}
+use Rattle.std.specs.Prelude.{◌≡◌, ℕ, ◌+◌, ◌*◌, ◌≤◌, ◌==◌, if◌then◌else◌, refl}
+use Rattle.std.proofs.Common.{arith, ap, ◌∙◌, add-mul, zero-mul, one-mul}
 use Rattle.std.proofs.lemmas.Bool.Decides.{nat_tests}
 use Rattle.core_term.specs.Tree.{Tree, Variable, Universe, Const, Product, Lambda, Let, Apply, free_bound, size_of, depth_of}
 use Rattle.core_term.specs.Places.{lifted, put_for, substituted, occurrences}

@@ -1,10 +1,10 @@
-use Rattle.std.specs.Prelude.{◌≡◌, ℕ, ◌≤◌, nat_le, IsTrue, if◌then◌else◌, refl}
+use Rattle.std.specs.Prelude.{◌≡◌, IsTrue, refl}
 use Rattle.std.proofs.Common.{arith, ap}
 use Rattle.std.proofs.lemmas.Bool.Decides.{nat_tests}
 use Rattle.core_term.specs.declared.sorts.Sort.{Sort}
 use Rattle.core_term.specs.declared.sorts.Sort.TheVariants.{PropSort, SetSort, TypeSort}
-use Rattle.core_term.specs.Sorts.{sort_below, sort_of_product, greater_sort, IsSort}
-use Rattle.core_term.specs.SortLaws.{IsSortOrder, ProductIsMonotone, ProductKeepsLevels}
+use Rattle.core_term.specs.Sorts.{sort_below, greater_sort}
+use Rattle.core_term.specs.SortLaws.{ProductIsMonotone, ProductKeepsLevels}
 
 pub below_itself : (a : Sort) → IsTrue (sort_below a a)
 below_itself PropSort = search

@@ -1,4 +1,4 @@
-use Rattle.std.specs.Prelude.{◌≡◌, ℕ, ◌≤◌}
+use Rattle.std.specs.Prelude.{◌≡◌}
 use Rattle.core_term.specs.Sorts.{IsSort}
 use Rattle.core_term.specs.Tree.{Tree, Variable, Universe, Const, Product, Lambda, Let, Apply, size_of, depth_of, free_bound, IsTerm}
 use Rattle.core_term.specs.declared.terms.Node.{Node}

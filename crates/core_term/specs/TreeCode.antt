@@ -9,16 +9,19 @@ use Rattle.core_term.specs.Tree.{Tree, Variable, Universe, Const, Product, Lambd
 abbrev pub Mark : Type 0
 Mark = ℕ × (ℕ × List ℕ)
 
+-- a sort as a number
 abbrev pub sort_number : Sort → ℕ
 sort_number PropSort = zero
 sort_number SetSort = suc zero
 sort_number (TypeSort i) = suc (suc i)
 
+-- the sort of a number
 abbrev pub numbered_sort : ℕ → Sort
 numbered_sort zero = PropSort
 numbered_sort (suc zero) = SetSort
 numbered_sort (suc (suc i)) = TypeSort i
 
+-- the number gives the sort back
 pub numbered_sort-sort_number : (s : Sort) → numbered_sort (sort_number s) ≡ s
 numbered_sort-sort_number PropSort = refl
 numbered_sort-sort_number SetSort = refl
@@ -51,6 +54,7 @@ read [] [] = Variable 0
 read [] (t ∷ _) = t
 read (m ∷ ms) stack = read ms (built m.0 m.1.0 m.1.1 stack)
 
+-- reading the nodes of a term puts it on the stack
 pub read-marks : (t : Tree) (rest : List Mark) (stack : List Tree) → read (marks t rest) stack ≡ read rest (t ∷ stack)
 read-marks (Variable i) rest stack = refl
 read-marks (Universe s) rest stack = ap (λ r. read rest (Universe r ∷ stack)) (numbered_sort-sort_number s)
