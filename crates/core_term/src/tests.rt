@@ -73,7 +73,14 @@ fn sorts<A: Abort>(rt: &A) {
 
 fn room<A: Abort>(rt: &A, alloc: Global) -> Result<(), Fail> {
     let value = applied(alloc, 2, 2)?;
-    for term in [applied(alloc, 0, 3)?, functions(alloc, 5)?, full(alloc, 4)?] {
+    let name = Text::copy(alloc, "y")?;
+    let product = Term::prod(alloc, name, applied(alloc, 3, 1)?, applied(alloc, 0, 2)?)?;
+    for term in [
+        applied(alloc, 0, 3)?,
+        functions(alloc, 5)?,
+        full(alloc, 4)?,
+        product,
+    ] {
         let raised = lifted(rt, alloc, &term, 1, 0)?;
         assert!(rt; !raised.equal(&term));
         assert_eq!(rt; raised.free_bound(), term.free_bound() + 1);
