@@ -1,5 +1,5 @@
-use Rattle.std.specs.Prelude.{◌≡◌, IsTrue, refl}
-use Rattle.std.proofs.Common.{arith, ap}
+use Rattle.std.specs.Prelude.{◌≡◌, ◌⊎◌, IsTrue, refl}
+use Rattle.std.proofs.Common.{arith, ap, inl, inr}
 use Rattle.std.proofs.lemmas.Bool.Decides.{nat_tests}
 use Rattle.core_term.specs.declared.sorts.Sort.{Sort}
 use Rattle.core_term.specs.declared.sorts.Sort.TheVariants.{PropSort, SetSort, TypeSort}
@@ -34,6 +34,15 @@ below_through (TypeSort i) (TypeSort j) PropSort h k = k
 below_through (TypeSort i) (TypeSort j) SetSort h k = k
 below_through (TypeSort i) PropSort c h k = grind arith
 below_through (TypeSort i) SetSort c h k = grind arith
+
+pub below_total : (a b : Sort) → IsTrue (sort_below a b) ⊎ IsTrue (sort_below b a)
+below_total PropSort b = inl refl
+below_total SetSort PropSort = inr refl
+below_total SetSort SetSort = inl refl
+below_total SetSort (TypeSort j) = inl refl
+below_total (TypeSort i) PropSort = inr refl
+below_total (TypeSort i) SetSort = inr refl
+below_total (TypeSort i) (TypeSort j) = grind (arith, nat_tests)
 
 -- the greater of two sorts is above both
 above_left : (a b : Sort) → IsTrue (sort_below a (greater_sort a b))

@@ -4,5 +4,6 @@ pub mod TreeCode
 pub mod Nodes
 pub mod Places
 pub mod Answers
+pub mod Stops
 pub mod SortLaws
 pub mod TermLaws

@@ -1,12 +1,13 @@
-use Rattle.std.specs.Prelude.{◌≡◌, IsTrue}
+use Rattle.std.specs.Prelude.{◌≡◌, ◌⊎◌, IsTrue}
 use Rattle.core_term.specs.declared.sorts.Sort.{Sort}
 use Rattle.core_term.specs.Sorts.{sort_below, sort_of_product, IsSort}
 
--- the order of sorts is reflexive, antisymmetric and transitive
+-- the order of sorts is reflexive, antisymmetric, transitive and total
 pub record IsSortOrder : Type 0 where
   pub reflexive : (a : Sort) → IsTrue (sort_below a a)
   pub antisymmetric : (a b : Sort) → IsTrue (sort_below a b) → IsTrue (sort_below b a) → a ≡ b
   pub transitive : (a b c : Sort) → IsTrue (sort_below a b) → IsTrue (sort_below b c) → IsTrue (sort_below a c)
+  pub total : (a b : Sort) → IsTrue (sort_below a b) ⊎ IsTrue (sort_below b a)
 
 -- greater sorts of the parts give no smaller sort of the product
 abbrev pub ProductIsMonotone : Type 0

@@ -1,4 +1,4 @@
-use base_core::NoMem;
+use base_core::{Limit, NoMem, Stop};
 use std::alloc::{AllocError, AllocFailed};
 use thiserror::Error;
 
@@ -42,5 +42,19 @@ impl<T: Drop> From<AllocFailed<T>> for TermStop {
 
     fn from(_error: AllocFailed<T>) -> TermStop {
         TermStop::NoMem
+    }
+}
+
+impl From<TermStop> for Stop {
+    ghost use Rattle.std.specs.Prelude.{◌≡◌};
+    ghost use Rattle.core_term.specs.Stops.{stop_of};
+
+    ghost from_gives = { λ stop whole. whole ≡ stop_of stop };
+
+    fn from(stop: TermStop) -> Stop {
+        match stop {
+            TermStop::TooLarge => Stop::Out(Limit::SizeLimit),
+            TermStop::NoMem => Stop::NoMem,
+        }
     }
 }
