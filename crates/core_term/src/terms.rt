@@ -1,4 +1,4 @@
-ghost use Rattle.std.specs.Prelude.{◌≡◌, ℕ, ◌≤◌, ◌^◌, IfOk};
+ghost use Rattle.std.specs.Prelude.{◌≡◌, ◌≤◌, ◌^◌, IfOk};
 ghost use Rattle.core_term.specs.Sorts.{IsSort};
 ghost use Rattle.core_term.specs.Tree.{Variable, Universe, Const, Product, Lambda, Let, Apply, size_of, depth_of, free_bound, IsTerm, IsNumbered, IsLevelled};
 ghost use Rattle.core_term.specs.Nodes.{tree_of, HasSort, Measures};
