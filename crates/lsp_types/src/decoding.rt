@@ -12,7 +12,12 @@ use serde_json::Value;
 use std::alloc::Global;
 
 /// A request or a notification. A message that has a method and an id is a request.
-fn call_or_note(alloc: Global, name: &str, id: Option<Id>, message: &Value) -> Result<Incoming, DecodeFault>
+fn call_or_note(
+    alloc: Global,
+    name: &str,
+    id: Option<Id>,
+    message: &Value,
+) -> Result<Incoming, DecodeFault>
     ensures { Answers (sorted (Some name.now) id (view message.now)) result }
 {
     match id {

@@ -99,7 +99,11 @@ pub(crate) fn param<'v>(message: &'v Value, name: &str) -> Option<&'v Value>
 }
 
 /// A text of the document that the message speaks of.
-pub(crate) fn document_text(alloc: Global, message: &Value, name: &str) -> Result<Option<Text>, NoMem>
+pub(crate) fn document_text(
+    alloc: Global,
+    message: &Value,
+    name: &str,
+) -> Result<Option<Text>, NoMem>
     ensures { IfOk result (λ t. t ≡ document_text name.now (view message.now)) }
 {
     match param(message, "textDocument") {

@@ -17,7 +17,9 @@ pub enum Call {
     Initialize,
     Shutdown,
     /// The outline of a document.
-    Symbols { uri: Text },
+    Symbols {
+        uri: Text,
+    },
     /// The goals at a position: in the state after the sentence there, or in the one before it.
     Goals {
         uri: Text,
@@ -32,7 +34,9 @@ pub enum Note {
     Initialized,
     Exit,
     /// The request of this id is not wanted any more.
-    Cancel { id: Id },
+    Cancel {
+        id: Id,
+    },
     DidOpen {
         uri: Text,
         version: i32,
@@ -43,9 +47,14 @@ pub enum Note {
         version: i32,
         changes: ChangeList,
     },
-    DidClose { uri: Text },
+    DidClose {
+        uri: Text,
+    },
     /// Units of work that a document may use.
-    Grant { uri: Text, units: u32 },
+    Grant {
+        uri: Text,
+        units: u32,
+    },
     /// Forget what no open document uses.
     Trim,
     /// A method that is not known.

@@ -76,7 +76,12 @@ fn asked(id: Id, call: Option<Call>) -> Result<Incoming, DecodeFault>
 }
 
 /// The request of this method.
-pub(crate) fn request(alloc: Global, name: &str, id: Id, message: &Value) -> Result<Incoming, DecodeFault>
+pub(crate) fn request(
+    alloc: Global,
+    name: &str,
+    id: Id,
+    message: &Value,
+) -> Result<Incoming, DecodeFault>
     ensures { Answers (request name.now id (view message.now)) result }
 {
     if name == "initialize" {
