@@ -1,5 +1,5 @@
 -- The text of outgoing messages.
-use Rattle.std.proofs.Common.{◌≡◌, ℕ, ℤ, pos, negsuc, Bool, true, false, ◌||◌, IfOk, Result, Ok, Err, List, [], ◌∷◌, ◌++◌, codes, append_assoc, refl, ◌∙◌, ap}
+use Rattle.std.proofs.Common.{◌≡◌, ℕ, ℤ, pos, negsuc, false, IfOk, Result, Ok, Err, List, [], ◌∷◌, ◌++◌, codes, append_assoc, refl, ◌∙◌, ap}
 use Rattle.std.specs.Fmt.{signed_decimal}
 use Rattle.serde_json.specs.Data.{Data, string}
 use Rattle.serde_json.specs.Find.{is_float, of_integer}

@@ -1,5 +1,5 @@
 -- What makes a value a message, and which id it has (JSON-RPC 2.0).
-use Rattle.std.specs.Prelude.{ℕ, ℤ, ◌&&◌, ◌||◌, Bool, true, false, not, if◌then◌else◌, List, codes, Option, None, Some, option_and_then, is_some}
+use Rattle.std.specs.Prelude.{ℕ, ℤ, ◌&&◌, ◌||◌, Bool, false, not, if◌then◌else◌, List, codes, Option, None, Some, option_and_then, is_some}
 use Rattle.std.specs.Str.{bytes_eq}
 use Rattle.serde_json.specs.Data.{Data}
 use Rattle.serde_json.specs.Find.{get, as_str, as_null, as_object}

@@ -2,6 +2,7 @@ use crate::{DecodeFault, ErrorCode, Id, decode, encode_error, encode_note, encod
 use base_core::{NoMem, Text};
 use serde_json::{Value, json};
 use std::alloc::Global;
+use std::process::Abort;
 use std::test::Fail;
 
 /// Bodies as they stand.
@@ -369,69 +370,91 @@ fn nested(alloc: Global, depth: usize) -> Result<String, Fail> {
     Ok(body)
 }
 
-#[test]
-fn messages_are_read_and_written(rt: HostRuntime) -> Result<(), Fail> {
-    let alloc = rt.alloc();
+fn expect<R: Abort>(rt: &R, alloc: Global, body: &[u8], want: &str) -> Result<(), Fail> {
+    let got = shown(alloc, body)?;
+    assert_eq!(rt; got.as_str(), want, "at {body:?}");
+    Ok(())
+}
+
+fn expect_whole<R: Abort>(rt: &R, alloc: Global) -> Result<(), Fail> {
     for (body, want) in WHOLE {
-        assert_eq!(rt; shown(alloc, body.as_bytes())?.as_str(), want, "at {body}");
+        expect(rt, alloc, body.as_bytes(), want)?;
     }
+    expect(rt, alloc, b"\"\xff\"", "NotJson")?;
+    expect(
+        rt,
+        alloc,
+        nested(alloc, 127)?.as_bytes(),
+        "NotRequest(Null)",
+    )?;
+    expect(rt, alloc, nested(alloc, 128)?.as_bytes(), "NotJson")
+}
+
+fn expect_ids<R: Abort>(rt: &R, alloc: Global) -> Result<(), Fail> {
     for (id, want) in IDS {
         let body = format!(in alloc;
             "{{\"jsonrpc\":\"2.0\",\"method\":\"shutdown\",\"id\":{id}}}"
         )?;
-        assert_eq!(rt; shown(alloc, body.as_bytes())?.as_str(), want, "at {body}");
+        expect(rt, alloc, body.as_bytes(), want)?;
     }
+    Ok(())
+}
+
+fn expect_requests<R: Abort>(rt: &R, alloc: Global) -> Result<(), Fail> {
     for (method, params, want) in REQUESTS {
         let body = format!(in alloc;
             "{{\"jsonrpc\":\"2.0\",\"id\":1,\"method\":\"{method}\",\"params\":{params}}}"
         )?;
-        assert_eq!(rt; shown(alloc, body.as_bytes())?.as_str(), want, "at {body}");
+        expect(rt, alloc, body.as_bytes(), want)?;
     }
+    Ok(())
+}
+
+fn expect_notes<R: Abort>(rt: &R, alloc: Global) -> Result<(), Fail> {
     for (method, params, want) in NOTES {
         let body = format!(in alloc;
             "{{\"jsonrpc\":\"2.0\",\"method\":\"{method}\",\"params\":{params}}}"
         )?;
-        assert_eq!(rt; shown(alloc, body.as_bytes())?.as_str(), want, "at {body}");
+        expect(rt, alloc, body.as_bytes(), want)?;
     }
-    assert_eq!(rt; shown(alloc, b"\"\xff\"")?.as_str(), "NotJson");
-    assert_eq!(rt;
-        shown(alloc, nested(alloc, 127)?.as_bytes())?.as_str(),
-        "NotRequest(Null)"
-    );
-    assert_eq!(rt;
-        shown(alloc, nested(alloc, 128)?.as_bytes())?.as_str(),
-        "NotJson"
-    );
-    for (error, want) in ERRORS {
-        let body = format!(in alloc; "{{\"error\":{{{want}}},\"id\":null,\"jsonrpc\":\"2.0\"}}")?;
-        let got = encode_error(alloc, &Id::Null, error)?;
-        assert_eq!(rt; got.as_slice(), body.as_bytes(), "at {want}");
-    }
+    Ok(())
+}
+
+fn expect_errors<R: Abort>(rt: &R, alloc: Global) -> Result<(), Fail> {
     let word = Id::Word(Text::copy(alloc, "a\"\n")?);
-    let got = encode_error(alloc, &word, ErrorCode::ParseError)?;
-    assert_eq!(rt;
-        got.as_slice(),
-        "{\"error\":{\"code\":-32700,\"message\":\"parse error\"},\"id\":\"a\\\"\\n\",\"jsonrpc\":\"2.0\"}".as_bytes()
-    );
+    for (error, part) in ERRORS {
+        let got = encode_error(alloc, &word, error)?;
+        let want = format!(in alloc;
+            "{{\"error\":{{{part}}},\"id\":\"a\\\"\\n\",\"jsonrpc\":\"2.0\"}}"
+        )?;
+        assert_eq!(rt; got.as_slice(), want.as_bytes(), "at {part}");
+    }
+    Ok(())
+}
+
+fn expect_encoded<R: Abort>(rt: &R, alloc: Global) -> Result<(), Fail> {
     let x = json!(in alloc; {"b": [1, null], "a": "é"})?;
     let got = encode_result(alloc, &Id::Number(-5), x)?;
-    assert_eq!(rt;
-        got.as_slice(),
-        "{\"id\":-5,\"jsonrpc\":\"2.0\",\"result\":{\"a\":\"é\",\"b\":[1,null]}}".as_bytes()
-    );
-    let got = encode_note(
-        alloc,
-        "window/logMessage",
-        json!(in alloc; {"type": 1, "message": "m"})?,
-    )?;
-    assert_eq!(rt;
-        got.as_slice(),
-        "{\"jsonrpc\":\"2.0\",\"method\":\"window/logMessage\",\"params\":{\"message\":\"m\",\"type\":1}}".as_bytes()
-    );
-    let got = encode_result(alloc, &Id::Number(7), Value::Null)?;
-    assert_eq!(rt;
-        got.as_slice(),
-        "{\"id\":7,\"jsonrpc\":\"2.0\",\"result\":null}".as_bytes()
-    );
+    let want = "{\"id\":-5,\"jsonrpc\":\"2.0\",\"result\":{\"a\":\"é\",\"b\":[1,null]}}";
+    assert_eq!(rt; got.as_slice(), want.as_bytes());
+    let got = encode_result(alloc, &Id::Null, Value::Null)?;
+    let want = "{\"id\":null,\"jsonrpc\":\"2.0\",\"result\":null}";
+    assert_eq!(rt; got.as_slice(), want.as_bytes());
+    let params = json!(in alloc; {"type": 1, "message": "m"})?;
+    let got = encode_note(alloc, "window/logMessage", params)?;
+    let want =
+        "{\"jsonrpc\":\"2.0\",\"method\":\"window/logMessage\",\"params\":{\"message\":\"m\",\"type\":1}}";
+    assert_eq!(rt; got.as_slice(), want.as_bytes());
     Ok(())
+}
+
+#[test]
+fn messages_are_read_and_written(rt: HostRuntime) -> Result<(), Fail> {
+    let alloc = rt.alloc();
+    expect_whole(&rt, alloc)?;
+    expect_ids(&rt, alloc)?;
+    expect_requests(&rt, alloc)?;
+    expect_notes(&rt, alloc)?;
+    expect_errors(&rt, alloc)?;
+    expect_encoded(&rt, alloc)
 }
