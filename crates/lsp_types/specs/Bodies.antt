@@ -19,7 +19,7 @@ id_text Null = codes "null"
 abbrev pub result_body : Id → Data → List ℕ
 result_body id x = codes "{\"id\":" ++ (id_text id ++ (codes ",\"jsonrpc\":\"2.0\",\"result\":" ++ (compact_text x ++ codes "}")))
 
--- each error has one number and one text
+-- the number of each error (JSON-RPC 2.0, "Error object"; LSP 3.17, "ErrorCodes")
 abbrev pub error_number : ErrorCode → ℤ
 error_number ParseError = negsuc 32699
 error_number InvalidRequest = negsuc 32599
@@ -30,6 +30,7 @@ error_number RequestCancelled = negsuc 32799
 error_number ContentModified = negsuc 32800
 error_number TooManyWaiting = negsuc 32802
 
+-- the text of each error
 abbrev pub error_message : ErrorCode → List ℕ
 error_message ParseError = codes "parse error"
 error_message InvalidRequest = codes "invalid request"
@@ -54,15 +55,18 @@ id_data (Number n) = number (of_integer n)
 id_data (Word word) = string word
 id_data Null = null
 
--- the same messages as JSON values
+-- the answer to a request, as a JSON value
 abbrev pub result_data : Id → Data → Data
 result_data id x = object (member (codes "id") (id_data id) (member (codes "jsonrpc") (string (codes "2.0")) (member (codes "result") x no_members)))
 
+-- an error as a JSON value
 abbrev pub error_object : ErrorCode → Data
 error_object error = object (member (codes "code") (number (of_integer (error_number error))) (member (codes "message") (string (error_message error)) no_members))
 
+-- the refusal of a request, as a JSON value
 abbrev pub error_data : Id → ErrorCode → Data
 error_data id error = object (member (codes "error") (error_object error) (member (codes "id") (id_data id) (member (codes "jsonrpc") (string (codes "2.0")) no_members)))
 
+-- a notification, as a JSON value
 abbrev pub note_data : List ℕ → Data → Data
 note_data method params = object (member (codes "jsonrpc") (string (codes "2.0")) (member (codes "method") (string method) (member (codes "params") params no_members)))

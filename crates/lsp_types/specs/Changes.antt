@@ -11,6 +11,7 @@ abbrev pub stated_range : Option Data → Option (Option Range)
 stated_range None = Some None
 stated_range (Some d) = option_map (λ range. Some range) (range_of d)
 
+-- an edit of this range and text
 abbrev pub change_from : Option (Option Range) → Option (List ℕ) → Option Change
 change_from (Some range) (Some text) = Some (record { range = range; text = text })
 change_from _ _ = None
@@ -19,6 +20,7 @@ change_from _ _ = None
 abbrev pub change_of : Data → Option Change
 change_of d = change_from (stated_range (get (codes "range") d)) (text_at (codes "text") d)
 
+-- an edit before others
 abbrev pub with_change : Option Change → Option (List Change) → Option (List Change)
 with_change (Some change) (Some changes) = Some (change ∷ changes)
 with_change _ _ = None

@@ -27,6 +27,7 @@ message_of d = if is_message d then sorted (method_of d) (message_id d) d else E
 abbrev pub value_of : List ℕ → Option Data
 value_of body = if is_utf8 body then read body else None
 
+-- the message of a body that has this value, if any
 abbrev pub found_message : Option Data → Result Incoming DecodeFault
 found_message None = Err NotJson
 found_message (Some d) = message_of d

@@ -11,10 +11,12 @@ use Rattle.lsp_types.specs.Members.{integer_of, text_at}
 abbrev pub has : List ℕ → Data → Bool
 has name d = is_some (get name d)
 
+-- a text is there, and it is this one
 abbrev pub is_text : List ℕ → Option (List ℕ) → Bool
 is_text wanted None = false
 is_text wanted (Some text) = bytes_eq text wanted
 
+-- an id of this text, or else of this number
 abbrev pub id_from : Option (List ℕ) → Option ℤ → Option Id
 id_from (Some word) _ = Some (Word word)
 id_from None (Some number) = Some (Number number)
@@ -56,5 +58,6 @@ has_form d = is_some (as_object d) && has_version d && has_purpose d && has_good
 abbrev pub is_good_or_absent : Data → Option Id → Bool
 is_good_or_absent d good = not (has (codes "id") d) || is_some good
 
+-- a value is a message
 abbrev pub is_message : Data → Bool
 is_message d = has_form d && is_good_or_absent d (message_id d)

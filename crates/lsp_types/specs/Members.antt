@@ -17,16 +17,19 @@ as_uinteger n = if nat_le n 2147483647 then Some n else None
 abbrev pub integer_of : Data → Option ℤ
 integer_of d = option_and_then as_integer (option_and_then as_i64 (as_number d))
 
+-- the same of an unsigned integer
 abbrev pub uinteger_of : Data → Option ℕ
 uinteger_of d = option_and_then as_uinteger (option_and_then as_u64 (as_number d))
 
--- members of an object by name
+-- the text that is a member of an object by this name
 abbrev pub text_at : List ℕ → Data → Option (List ℕ)
 text_at name d = option_and_then as_str (get name d)
 
+-- the integer, in the same way
 abbrev pub integer_at : List ℕ → Data → Option ℤ
 integer_at name d = option_and_then integer_of (get name d)
 
+-- the unsigned integer
 abbrev pub uinteger_at : List ℕ → Data → Option ℕ
 uinteger_at name d = option_and_then uinteger_of (get name d)
 
@@ -39,6 +42,7 @@ position_from _ _ = None
 abbrev pub position_of : Data → Option Position
 position_of d = position_from (uinteger_at (codes "line") d) (uinteger_at (codes "character") d)
 
+-- the position that is a member
 abbrev pub position_at : List ℕ → Data → Option Position
 position_at name d = option_and_then position_of (get name d)
 
@@ -55,9 +59,10 @@ range_of d = range_from (position_at (codes "start") d) (position_at (codes "end
 abbrev pub param : List ℕ → Data → Option Data
 param name message = option_and_then (get name) (get (codes "params") message)
 
--- members of the document that a message speaks of
+-- a text of the document that a message speaks of
 abbrev pub document_text : List ℕ → Data → Option (List ℕ)
 document_text name message = option_and_then (text_at name) (param (codes "textDocument") message)
 
+-- the version of that document
 abbrev pub document_version : Data → Option ℤ
 document_version message = option_and_then (integer_at (codes "version")) (param (codes "textDocument") message)

@@ -9,6 +9,7 @@ use Rattle.lsp_types.specs.Members.{param, document_text, document_version, uint
 use Rattle.lsp_types.specs.Changes.{stated_changes}
 use Rattle.lsp_types.specs.Envelope.{id_of}
 
+-- an opening of this document, version and text
 abbrev pub open_from : Option (List ℕ) → Option ℤ → Option (List ℕ) → Option Note
 open_from (Some uri) (Some version) (Some text) = Some (DidOpen uri version text)
 open_from _ _ _ = None
@@ -17,6 +18,7 @@ open_from _ _ _ = None
 abbrev pub did_open : Data → Option Note
 did_open message = open_from (document_text (codes "uri") message) (document_version message) (document_text (codes "text") message)
 
+-- a change of this document to this version
 abbrev pub change_note_from : Option (List ℕ) → Option ℤ → Option (List Change) → Option Note
 change_note_from (Some uri) (Some version) (Some changes) = Some (DidChange uri version changes)
 change_note_from _ _ _ = None
@@ -33,6 +35,7 @@ did_close message = option_map DidClose (document_text (codes "uri") message)
 abbrev pub cancel : Data → Option Note
 cancel message = option_map Cancel (option_and_then id_of (param (codes "id") message))
 
+-- a grant of these units
 abbrev pub grant_from : Option (List ℕ) → Option ℕ → Option Note
 grant_from (Some uri) (Some units) = Some (Grant uri units)
 grant_from _ _ = None

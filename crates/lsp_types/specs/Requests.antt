@@ -26,6 +26,7 @@ abbrev pub after_of : Option Data → Option Bool
 after_of None = Some true
 after_of (Some d) = option_and_then after_named (as_str d)
 
+-- the goals of this document, place and side
 abbrev pub goals_from : Option (List ℕ) → Option Position → Option Bool → Option Call
 goals_from (Some uri) (Some at) (Some after) = Some (Goals uri at after)
 goals_from _ _ _ = None

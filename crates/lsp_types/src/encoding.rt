@@ -1,6 +1,8 @@
 //! Answers and notifications as bytes: JSON with no blank, members in ascending order of their
 //! names.
-ghost use Rattle.std.specs.Prelude.{◌≡◌, false, IfOk};
+ghost use Rattle.std.specs.Prelude.{◌≡◌, ◌≤◌, false, Some, IfOk};
+ghost use Rattle.serde_json.specs.Data.{depth};
+ghost use Rattle.serde_json.specs.Read.{read, max_depth};
 ghost use Rattle.serde_json.specs.View.{view};
 ghost use Rattle.serde_json.specs.Written.{has_float, compact_text};
 ghost use Rattle.lsp_types.specs.Bodies.{id_data, result_data, error_object, error_data, note_data, result_body, error_body, note_body};
@@ -50,15 +52,20 @@ fn note_value(alloc: Global, method: &str, params: Value) -> Result<Value, NoMem
 }
 
 fn write(alloc: Global, body: &Value) -> Result<Bytes, NoMem>
-    ensures { IfOk result (λ b. has_float (view body.now) ≡ false → b ≡ compact_text (view body.now)) }
+    ensures text { IfOk result
+        (λ b. has_float (view body.now) ≡ false → b ≡ compact_text (view body.now)) }
+    ensures reads { IfOk result
+        (λ b. depth (view body.now) ≤ max_depth → read b ≡ Some (view body.now)) }
 {
     Ok(Bytes::from_vec(body.to_vec(alloc)?))
 }
 
-/// The answer to a request. The bytes are told where the result has no number with a point or an
-/// exponent.
+/// The answer to a request. The digits of a number with a point or an exponent are not told.
 pub fn encode_result(alloc: Global, id: &Id, x: Value) -> Result<Bytes, NoMem>
-    ensures { IfOk result (λ b. has_float (view x) ≡ false → b ≡ result_body id.now (view x)) }
+    ensures text { IfOk result
+        (λ b. has_float (view x) ≡ false → b ≡ result_body id.now (view x)) }
+    ensures reads { let message = result_data id.now (view x) in
+        IfOk result (λ b. depth message ≤ max_depth → read b ≡ Some message) }
 {
     let body = result_value(alloc, id, x)?;
     write(alloc, &body)
@@ -66,17 +73,19 @@ pub fn encode_result(alloc: Global, id: &Id, x: Value) -> Result<Bytes, NoMem>
 
 /// The refusal of a request, or of a body that is none.
 pub fn encode_error(alloc: Global, id: &Id, error: ErrorCode) -> Result<Bytes, NoMem>
-    ensures { IfOk result (λ b. b ≡ error_body id.now error) }
+    ensures text { IfOk result (λ b. b ≡ error_body id.now error) }
+    ensures reads { IfOk result (λ b. read b ≡ Some (error_data id.now error)) }
 {
     let body = error_value(alloc, id, error)?;
     write(alloc, &body)
 }
 
-/// A notification. The bytes are told where its members have no number with a point or an
-/// exponent.
+/// A notification. The digits of a number with a point or an exponent are not told.
 pub fn encode_note(alloc: Global, method: &str, params: Value) -> Result<Bytes, NoMem>
-    ensures { IfOk result
+    ensures text { IfOk result
         (λ b. has_float (view params) ≡ false → b ≡ note_body method.now (view params)) }
+    ensures reads { let message = note_data method.now (view params) in
+        IfOk result (λ b. depth message ≤ max_depth → read b ≡ Some message) }
 {
     let body = note_value(alloc, method, params)?;
     write(alloc, &body)
