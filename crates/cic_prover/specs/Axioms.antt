@@ -4,7 +4,6 @@ use Rattle.std.specs.Prelude.{◌==◌, ℕ, ◌&&◌, ◌||◌, nat_le, Bool, f
 use Rattle.std.specs.List.{prefix_len}
 use Rattle.std.specs.Str.{bytes_eq}
 use Rattle.sentence_split.specs.Items.{is_blank, begins}
-use Rattle.cic_prover.specs.declared.reports.AxiomItem.{AxiomItem}
 
 -- a letter of ASCII, or `_`
 abbrev pub is_letter : ℕ → Bool
@@ -45,12 +44,12 @@ is_name word = begins_letter word && not (is_reserved word)
 abbrev pub is_sort : List ℕ → Bool
 is_sort word = bytes_eq word (codes "Prop") || bytes_eq word (codes "Set")
 
--- what the sentence declares, if it is built
-abbrev pub axiom_of : List ℕ → Option AxiomItem
+-- the name and the sort of the axiom that a sentence declares, if it is built
+abbrev pub axiom_of : List ℕ → Option (List ℕ × List ℕ)
 axiom_of sentence =
     let name = skip (past_word sentence) in
     let colon = skip (past_word name) in
     let sort = skip (drop 1 colon) in
     if bytes_eq (word sentence) (codes "Axiom") && is_name (word name) && begins 58 colon && is_sort (word sort) && bytes_eq (skip (past_word sort)) (codes ".")
-    then Some (record { name = word name; sort = word sort })
+    then Some (word name, word sort)
     else None

@@ -1,3 +1,6 @@
 pub mod Axioms
-pub mod Check
-pub mod Names
+pub mod Messages
+pub mod States
+pub mod Verdicts
+pub mod Exec
+pub mod Laws

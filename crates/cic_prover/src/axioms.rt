@@ -114,7 +114,7 @@ fn is_sort(word: &str) -> bool
 
 /// The name and the sort of the axiom that a sentence declares, if it declares one.
 pub fn axiom_of(sentence: &[u8]) -> Option<(&str, &str)>
-    ensures { MatchOption result (axiom_of sentence.now ≡ None) (λ parts. axiom_of sentence.now ≡ Some (record { name = parts.0.now; sort = parts.1.now })) }
+    ensures { MatchOption result (axiom_of sentence.now ≡ None) (λ parts. axiom_of sentence.now ≡ Some (parts.0.now, parts.1.now)) }
 {
     let name = skip(past_word(sentence));
     let colon = skip(past_word(name));

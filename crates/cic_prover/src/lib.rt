@@ -1,10 +1,12 @@
-//! The prover: what the sentences of a text declare, and which are refused.
+//! The prover: what a sentence declares, and why it is refused.
 #![tactic(auto)]
 
 mod axioms;
-mod checking;
-mod names;
-mod reports;
+mod messages;
+mod prover;
+mod states;
+mod verdicts;
 
-pub use checking::check_text;
-pub use reports::{AxiomItem, AxiomItemList, PlainRefusal, PlainReport, RefusalList};
+
+pub use prover::CicProver;
+pub use states::AxiomState;

@@ -1,4 +1,4 @@
-ghost use Rattle.std.specs.Prelude.{◌≡◌, ◌++◌, [], ◌∷◌, OnOk};
+ghost use Rattle.std.specs.Prelude.{◌≡◌, ◌++◌, [], ◌∷◌, IfOk, OnOk};
 
 use base_core::{NoMem, Text};
 use std::alloc::Global;
@@ -38,6 +38,17 @@ impl TextList {
         ensures { result.now ≡ self.now }
     {
         self.items.as_slice()
+    }
+
+    /// The same texts once more.
+    pub fn copied(&self, alloc: Global) -> Result<TextList, NoMem>
+        ensures { IfOk result (λ texts. texts ≡ self.now) }
+    {
+        let mut items = Vec::new(alloc);
+        for item in self.items.as_slice() {
+            items.push(Text::copy(alloc, item.as_str())?)?;
+        }
+        Ok(TextList { items })
     }
 }
 

@@ -1,4 +1,5 @@
-ghost use Rattle.std.specs.Prelude.{◌≡◌, ℕ, ◌+◌, ◌<◌, ◌≤◌, Option, List, All, length, IfOk, IfSome, MatchResult};
+ghost use Rattle.std.specs.Prelude.{◌≡◌, ℕ, ◌+◌, ◌^◌, ◌<◌, ◌≤◌, Option, List, All, length, IfOk, IfSome, MatchResult};
+ghost use Rattle.std.specs.Str.{IsUtf8};
 ghost use Rattle.base_core.specs.Fit.{IsFit};
 ghost use Rattle.prover_iface.specs.declared.diagnostics.RelDiag.{RelDiag};
 ghost use Rattle.prover_iface.specs.declared.outline.OutlineItem.{OutlineItem};
@@ -65,7 +66,8 @@ pub trait Prover: Drop {
 
     /// Runs a sentence with so many units. It is done exactly where its cost is at most these.
     fn exec<C: Ledger>(&self, alloc: Global, state: &Self::State, kind: Kind, text: &str, units: u32, steps: &mut Steps<C>) -> Result<Outcome<Self::State>, NoMem>
-        requires { IsFit kind text.now }
+        requires fit { IsFit kind text.now }
+        requires short { length text.now < 2 ^ 32 }
         ensures answer { IfOk result (Answers meaning (after (meaning state.now) (sentence kind text.now)) (diagnosed (meaning state.now) (sentence kind text.now)) (cost (meaning state.now) (sentence kind text.now)) units) }
         ensures work { Works (cost (meaning state.now) (sentence kind text.now)) units steps.old steps.new result };
 
@@ -81,10 +83,13 @@ pub trait Prover: Drop {
     fn outline(&self, alloc: Global, state: &Self::State) -> Result<OutlineList, NoMem>
         ensures { IfOk result (λ outline. outline ≡ outline_of (meaning state.now)) };
 
+    /// No sentence costs more than all units of a sentence and one.
     ghost bounded: { (m : Meaning) (s : Sentence) → cost m s ≤ 1000001 };
 
-    ghost placed: { (m : Meaning) (s : Sentence) → All (IsDiag s.text) (diagnosed m s) };
+    /// What is told of a sentence stands at whole characters of it.
+    ghost placed: { (m : Meaning) (s : Sentence) → IsUtf8 s.text → All (IsDiag s.text) (diagnosed m s) };
 
+    /// The numbers that are answered are those of sentences before.
     ghost opened_before: { (sentences : List Sentence) → IfSome (opened (fold_exec after first sentences)) (λ n. n < length sentences) };
 
     ghost declared_before: { (sentences : List Sentence) → All (IsPast (length sentences)) (outline_of (fold_exec after first sentences)) };
