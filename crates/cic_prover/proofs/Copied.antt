@@ -1,5 +1,5 @@
 -- A list copied item by item.
-use Rattle.std.proofs.Common.{◌≡◌, ℕ, ◌+◌, ◌<◌, Option, Some, None, List, [], ◌∷◌, ◌++◌, length, get_or, take, drop, zero, suc, refl, sym, ◌∙◌, ap, subst, arith, add-one}
+use Rattle.std.proofs.Common.{◌≡◌, ℕ, ◌+◌, Some, List, [], ◌∷◌, ◌++◌, take, zero, suc, sym, ◌∙◌, ap, add-one}
 use Rattle.std.specs.List.{slice_get}
 use Rattle.prover_iface.specs.declared.outline.OutlineItem.{OutlineItem}
 

@@ -1,6 +1,5 @@
 -- One more name is taken.
-use Rattle.std.proofs.Common.{◌≡◌, ℕ, Bool, cond, true, false, Option, Some, None, is_some, List, [], ◌∷◌, ◌++◌, ◌||◌, String, Global, string_bytes, string_cmp, is_eq, refl, sym, ◌∙◌, ap, subst}
-use Rattle.std.specs.List.{list_any}
+use Rattle.std.proofs.Common.{◌≡◌, ℕ, Bool, cond, true, false, Option, Some, is_some, List, [], ◌∷◌, ◌++◌, ◌||◌, String, Global, string_bytes, string_cmp, is_eq, refl, sym, ◌∙◌, ap}
 use Rattle.std.specs.Str.{bytes_eq}
 use Rattle.std.proofs.lemmas.List.Folds.{list_any-append}
 use Rattle.std.proofs.lemmas.Map.Text.{is_eq-slice_cmp}
@@ -22,7 +21,7 @@ pub names-added : (old new : List (String Global × Unit {0})) (outline now : Li
 names-added old new outline now item key value held puts same grown = λ name.
     let q : List ℕ = string_bytes name in
     let found : is_some (look string_cmp new name) ≡ cond (is_eq (string_cmp name key)) true (is_some (look string_cmp old name)) =
-      ap is_some (puts name) ∙ some_or (is_eq (string_cmp name key)) (look string_cmp old name) value in
+    ap is_some (puts name) ∙ some_or (is_eq (string_cmp name key)) (look string_cmp old name) value in
     let test : is_eq (string_cmp name key) ≡ bytes_eq q item.name = is_eq-slice_cmp q (string_bytes key) ∙ ap (bytes_eq q) same in
     found
     ∙ ap (λ t. cond t true (is_some (look string_cmp old name))) test

@@ -1,18 +1,15 @@
 -- What holds of every prover, of this one.
-use Rattle.std.proofs.Common.{◌≡◌, ℕ, ◌+◌, ◌<◌, ◌≤◌, min, cond, Bool, true, false, Option, None, Some, List, [], ◌∷◌, ◌++◌, length, fold, zero, suc, refl, sym, ◌∙◌, ap, subst, arith, All}
-use Rattle.std.specs.Str.{IsUtf8, IsCharBoundary}
+use Rattle.std.proofs.Common.{◌≡◌, ℕ, ◌+◌, ◌≤◌, List, [], ◌∷◌, length, subst, arith, All}
+use Rattle.std.specs.Str.{IsUtf8}
 use Rattle.std.proofs.lemmas.Str.{IsCharBoundary-start, IsCharBoundary-end}
 use Rattle.std.proofs.lemmas.List.Elements.{All-push}
-use Rattle.base_core.specs.declared.kind.Kind.{Kind}
-use Rattle.base_core.specs.declared.kind.Kind.TheVariants.{Plain, Bullet, BraceOpen, BraceClose, Unfinished}
-use Rattle.prover_iface.specs.declared.diagnostics.RelDiag.{RelDiag}
 use Rattle.prover_iface.specs.declared.outline.OutlineItem.{OutlineItem}
 use Rattle.prover_iface.specs.Sentences.{Sentence}
 use Rattle.prover_iface.specs.Exec.{fold_exec}
 use Rattle.prover_iface.specs.Laws.{IsDiag, IsPast}
 use Rattle.cic_prover.specs.declared.verdicts.Verdict.{Verdict}
 use Rattle.cic_prover.specs.declared.verdicts.Verdict.TheVariants.{Refused, Declares}
-use Rattle.cic_prover.specs.States.{Declared, nothing, passed, entered, axiom_item}
+use Rattle.cic_prover.specs.States.{Declared, nothing, axiom_item}
 use Rattle.cic_prover.specs.Verdicts.{verdict}
 use Rattle.cic_prover.specs.Exec.{next, told, verdict_cost, after, diagnosed, cost, outline_of}
 
@@ -29,7 +26,7 @@ no_diags text = λ k d h. absurd (omega arith)
 told-placed : (text : List ℕ) (v : Verdict) → IsUtf8 text → All (IsDiag text) (told text v)
 told-placed text (Refused code) utf8 =
     All-push (IsDiag text) [] _ (no_diags text)
-      (record { severe = omega arith; mild = omega arith; ordered = omega arith; from_cut = IsCharBoundary-start text utf8; to_cut = IsCharBoundary-end text })
+    (record { severe = omega arith; mild = omega arith; ordered = omega arith; from_cut = IsCharBoundary-start text utf8; to_cut = IsCharBoundary-end text })
 told-placed text (Declares name sort) utf8 = no_diags text
 
 pub diagnosed-placed : (m : Declared) (s : Sentence) → IsUtf8 s.text → All (IsDiag s.text) (diagnosed m s)

@@ -7,6 +7,5 @@ mod prover;
 mod states;
 mod verdicts;
 
-
 pub use prover::CicProver;
 pub use states::AxiomState;

@@ -52,7 +52,11 @@ impl Prover for CicProver {
 
     ghost declared_before = { declared-past };
 
-    fn initial<C: Ledger>(&self, _alloc: Global, _steps: &mut Steps<C>) -> Result<AxiomState, NoMem> {
+    fn initial<C: Ledger>(
+        &self,
+        _alloc: Global,
+        _steps: &mut Steps<C>,
+    ) -> Result<AxiomState, NoMem> {
         Ok(AxiomState::empty())
     }
 
@@ -60,7 +64,15 @@ impl Prover for CicProver {
         state.share()
     }
 
-    fn exec<C: Ledger>(&self, alloc: Global, state: &AxiomState, kind: Kind, text: &str, units: u32, steps: &mut Steps<C>) -> Result<Outcome<AxiomState>, NoMem> {
+    fn exec<C: Ledger>(
+        &self,
+        alloc: Global,
+        state: &AxiomState,
+        kind: Kind,
+        text: &str,
+        units: u32,
+        steps: &mut Steps<C>,
+    ) -> Result<Outcome<AxiomState>, NoMem> {
         let verdict = verdict_of(alloc, state, kind, text)?;
         let cost = cost_of(&verdict);
         if units < cost {

@@ -34,7 +34,12 @@ fn plain_verdict(alloc: Global, state: &AxiomState, text: &str) -> Result<Verdic
 }
 
 /// What becomes of a sentence in a state.
-pub fn verdict_of(alloc: Global, state: &AxiomState, kind: Kind, text: &str) -> Result<Verdict, NoMem>
+pub fn verdict_of(
+    alloc: Global,
+    state: &AxiomState,
+    kind: Kind,
+    text: &str,
+) -> Result<Verdict, NoMem>
     ensures { IfOk result (λ v. v ≡ verdict state.now kind text.now) }
 {
     match kind {

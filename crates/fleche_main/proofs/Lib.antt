@@ -1,3 +1,5 @@
 pub mod Pieces
 pub mod Statuses
+pub mod Placed
 pub mod Texts
+pub mod Lines

@@ -1,5 +1,4 @@
 pub mod Words
-pub mod Messages
 pub mod Reports
 pub mod Outcome
 pub mod Status

@@ -1,48 +1,92 @@
 -- The lines that are written for a file.
-use Rattle.std.specs.Prelude.{ℕ, ◌+◌, List, [], ◌∷◌, ◌++◌, codes, length}
+use Rattle.std.specs.Prelude.{ℕ, ◌==◌, ◌+◌, Bool, true, false, List, [], ◌∷◌, ◌++◌, codes, count_by, if◌then◌else◌}
 use Rattle.std.specs.Fmt.{decimal}
 use Rattle.base_core.specs.declared.places.Position.{Position}
 use Rattle.utf16_doc.specs.Position.{position_at}
-use Rattle.cic_prover.specs.declared.reports.AxiomItem.{AxiomItem}
-use Rattle.cic_prover.specs.declared.reports.PlainRefusal.{PlainRefusal}
-use Rattle.cic_prover.specs.declared.reports.PlainReport.{PlainReport}
-use Rattle.cic_prover.specs.Check.{check}
-use Rattle.fleche_main.specs.Messages.{message}
+use Rattle.prover_iface.specs.declared.diagnostics.RelDiag.{RelDiag}
+use Rattle.prover_iface.specs.declared.outline.ItemKind.{ItemKind}
+use Rattle.prover_iface.specs.declared.outline.ItemKind.TheVariants.{Axiom, Definition, Inductive, Theorem, Admitted}
+use Rattle.prover_iface.specs.declared.outline.OutlineItem.{OutlineItem}
+use Rattle.prover_iface.specs.declared.reports.Report.{Report}
 
 -- pieces one after another
 abbrev pub joined : List (List ℕ) → List ℕ
 joined [] = []
 joined (piece ∷ pieces) = piece ++ joined pieces
 
--- `FILE:L:C: error CODE: TEXT`, with line and character from 1
-abbrev pub placed_line : List ℕ → Position → ℕ → List ℕ
-placed_line name at code =
-    joined (name ∷ codes ":" ∷ decimal (at.line + 1) ∷ codes ":" ∷ decimal (at.character + 1) ∷ codes ": error " ∷ decimal code ∷ codes ": " ∷ message code ∷ codes "\n" ∷ [])
+-- the word of a severity
+abbrev pub severity_word : ℕ → List ℕ
+severity_word severity = if severity == 1 then codes "error" else if severity == 2 then codes "warning" else codes "info"
 
--- a refusal, where its sentence begins
-abbrev pub refusal_line : List ℕ → List ℕ → PlainRefusal → List ℕ
-refusal_line name text refusal = placed_line name (position_at text refusal.from) refusal.code
+-- `FILE:L:C: SEV CODE: TEXT`, with line and character from 1
+abbrev pub placed_line : List ℕ → Position → RelDiag → List ℕ
+placed_line name at diag =
+    joined (name ∷ codes ":" ∷ decimal (at.line + 1) ∷ codes ":" ∷ decimal (at.character + 1) ∷ codes ": " ∷ severity_word diag.severity ∷ codes " " ∷ decimal diag.code ∷ codes ": " ∷ diag.text ∷ codes "\n" ∷ [])
 
-abbrev pub refusal_lines : List ℕ → List ℕ → List PlainRefusal → List ℕ
-refusal_lines name text [] = []
-refusal_lines name text (refusal ∷ refusals) = refusal_line name text refusal ++ refusal_lines name text refusals
+-- a diagnostic, where it begins
+abbrev pub diag_line : List ℕ → List ℕ → RelDiag → List ℕ
+diag_line name text diag = placed_line name (position_at text diag.from) diag
 
--- `FILE: axiom NAME : SORT`
-abbrev pub axiom_line : List ℕ → AxiomItem → List ℕ
-axiom_line name item = joined (name ∷ codes ": axiom " ∷ item.name ∷ codes " : " ∷ item.sort ∷ codes "\n" ∷ [])
+abbrev pub diag_lines : List ℕ → List ℕ → List RelDiag → List ℕ
+diag_lines name text [] = []
+diag_lines name text (diag ∷ diags) = diag_line name text diag ++ diag_lines name text diags
 
-abbrev pub axiom_lines : List ℕ → List AxiomItem → List ℕ
-axiom_lines name [] = []
-axiom_lines name (item ∷ items) = axiom_line name item ++ axiom_lines name items
+-- the word of a kind
+abbrev pub kind_word : ItemKind → List ℕ
+kind_word Axiom = codes "axiom"
+kind_word Definition = codes "definition"
+kind_word Inductive = codes "inductive"
+kind_word Theorem = codes "theorem"
+kind_word Admitted = codes "admitted"
 
--- `FILE: end E errors A admissions`; nothing can be admitted yet
-abbrev pub end_line : List ℕ → ℕ → List ℕ
-end_line name errors = joined (name ∷ codes ": end " ∷ decimal errors ∷ codes " errors 0 admissions\n" ∷ [])
+-- the axioms of a definition or theorem are listed
+abbrev pub lists_axioms : ItemKind → Bool
+lists_axioms Axiom = false
+lists_axioms Definition = true
+lists_axioms Inductive = false
+lists_axioms Theorem = true
+lists_axioms Admitted = false
 
--- all lines: the refusals, the axioms, the totals
-abbrev pub report_lines : List ℕ → List ℕ → PlainReport → List ℕ
-report_lines name text report = (refusal_lines name text report.refusals ++ axiom_lines name report.axioms) ++ end_line name (length report.refusals)
+-- each name with a blank before it
+abbrev pub spaced : List (List ℕ) → List ℕ
+spaced [] = []
+spaced (name ∷ names) = codes " " ++ (name ++ spaced names)
 
--- the report of a file with this text
-abbrev pub file_report : List ℕ → List ℕ → List ℕ
-file_report name text = report_lines name text (check text)
+-- ` [` the names, separated by one blank, `]`; nothing where there is none
+abbrev pub bracket : List (List ℕ) → List ℕ
+bracket [] = []
+bracket (name ∷ names) = codes " [" ++ (name ++ (spaced names ++ codes "]"))
+
+abbrev pub listed_axioms : OutlineItem → List ℕ
+listed_axioms item = if lists_axioms item.kind then bracket item.axioms else []
+
+-- `FILE: KIND NAME : STATEMENT`, and the listed axioms
+abbrev pub item_line : List ℕ → OutlineItem → List ℕ
+item_line name item = joined (name ∷ codes ": " ∷ kind_word item.kind ∷ codes " " ∷ item.name ∷ codes " : " ∷ item.statement ∷ listed_axioms item ∷ codes "\n" ∷ [])
+
+abbrev pub item_lines : List ℕ → List OutlineItem → List ℕ
+item_lines name [] = []
+item_lines name (item ∷ items) = item_line name item ++ item_lines name items
+
+-- the number of errors
+abbrev pub error_count : List RelDiag → ℕ
+error_count diags = count_by (λ diag. diag.severity == 1) diags
+
+abbrev pub is_admitted : ItemKind → Bool
+is_admitted Axiom = false
+is_admitted Definition = false
+is_admitted Inductive = false
+is_admitted Theorem = false
+is_admitted Admitted = true
+
+-- the number of admissions
+abbrev pub admission_count : List OutlineItem → ℕ
+admission_count items = count_by (λ item. is_admitted item.kind) items
+
+-- `FILE: end E errors A admissions`
+abbrev pub end_line : List ℕ → ℕ → ℕ → List ℕ
+end_line name errors admissions = joined (name ∷ codes ": end " ∷ decimal errors ∷ codes " errors " ∷ decimal admissions ∷ codes " admissions\n" ∷ [])
+
+-- all lines of a file with this text: diagnostics, outline, totals
+abbrev pub file_report : List ℕ → List ℕ → Report → List ℕ
+file_report name text report = (diag_lines name text report.diags ++ item_lines name report.outline) ++ end_line name (error_count report.diags) (admission_count report.outline)

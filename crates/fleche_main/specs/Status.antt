@@ -1,5 +1,5 @@
 -- Exit statuses.
-use Rattle.std.specs.Prelude.{◌≡◌, ℕ, ◌<◌, Result, Ok, Err, List, [], ◌∷◌, Contains}
+use Rattle.std.specs.Prelude.{ℕ, Result, Ok, Err, [], ◌∷◌, Contains}
 use Rattle.fleche_main.specs.declared.endings.Ending.{Ending}
 use Rattle.fleche_main.specs.declared.endings.Ending.TheVariants.{Clean, NotAForm, Unclean, NotRead, NotText}
 use Rattle.fleche_main.specs.declared.endings.Halt.{Halt}

@@ -2,25 +2,30 @@ ghost use Rattle.std.specs.Prelude.{◌≡◌, ◌≢◌, ◌≤◌, Ok, length,
 ghost use Rattle.std.specs.Result.{IsErrOf};
 ghost use Rattle.base_core.specs.Faults.{Rose};
 ghost use Rattle.base_core.specs.Files.{file_at};
+ghost use Rattle.prover_iface.specs.Check.{checked};
 ghost use Rattle.fleche_main.specs.Outcome.{ending_of, text_outcome, bytes_outcome, file_outcome};
 ghost use Rattle.fleche_main.specs.Run.{EndsAs};
 
+use crate::checking::check_text;
 use crate::endings::{Ending, Halt};
-use crate::reports::report_lines;
+use crate::reports::{admission_count, error_count, report_lines};
 use crate::write::write_all;
-use base_core::{FileFault, FileSet, Sink};
-use cic_prover::{PlainReport, check_text};
+use base_core::{FileFault, FileSet, Sink, Steps};
+use prover_iface::{Prover, Report};
 use std::alloc::Global;
 use std::str;
+use std::sync::ledger::Ledger;
 use utf16_doc::{Doc, DocStop};
 
-/// Clean where no sentence is refused.
-fn ending_of(report: &PlainReport) -> Ending
+/// Clean where there is no error and no admission.
+fn ending_of(report: &Report) -> Ending
     ensures value { result ≡ ending_of report.now }
     ensures formed { result ≢ Ending.NotAForm }
     ensures read { result ≢ Ending.NotRead }
 {
-    if report.refusals.as_slice().len() == 0 {
+    if error_count(report.diags.as_slice()) == 0
+        && admission_count(report.outline.as_slice()) == 0
+    {
         Ending::Clean
     } else {
         Ending::Unclean
@@ -28,27 +33,36 @@ fn ending_of(report: &PlainReport) -> Ending
 }
 
 /// Checks a text and writes its report.
-fn report_text<S: Sink>(alloc: Global, name: &str, doc: &Doc, out: &mut S) -> Result<Ending, Halt>
-    ensures told { EndsAs (text_outcome name.now doc.now) result (S.written out.old) (S.written out.new) }
+fn report_text<S: Sink, P: Prover, C: Ledger>(
+    alloc: Global,
+    prover: &P,
+    name: &str,
+    doc: &Doc,
+    out: &mut S,
+    steps: &mut Steps<C>,
+) -> Result<Ending, Halt>
+    ensures told { EndsAs (text_outcome (λ text. checked P.first P.after P.diagnosed P.opened P.outline_of text) name.now doc.now) result (S.written out.old) (S.written out.new) }
     ensures failed { IsErrOf result Halt.SinkFailed → Rose (S.faults out.old) (S.faults out.new) }
     ensures formed { IfOk result (λ ending. ending ≢ Ending.NotAForm) }
     ensures read { IfOk result (λ ending. ending ≢ Ending.NotRead) }
 {
-    let report = check_text(alloc, doc.text())?;
+    let report = check_text(alloc, prover, doc.text(), steps)?;
     let lines = report_lines(alloc, name, doc, &report)?;
     write_all(out, lines.as_str().as_bytes())?;
     Ok(ending_of(&report))
 }
 
 /// Reports a file's bytes, if they are a text.
-fn check_bytes<S: Sink>(
+fn check_bytes<S: Sink, P: Prover, C: Ledger>(
     alloc: Global,
+    prover: &P,
     name: &str,
     bytes: &[u8],
     out: &mut S,
+    steps: &mut Steps<C>,
 ) -> Result<Ending, Halt>
     requires { length bytes.now ≤ 1048576 }
-    ensures told { EndsAs (bytes_outcome name.now bytes.now) result (S.written out.old) (S.written out.new) }
+    ensures told { EndsAs (bytes_outcome (λ text. checked P.first P.after P.diagnosed P.opened P.outline_of text) name.now bytes.now) result (S.written out.old) (S.written out.new) }
     ensures failed { IsErrOf result Halt.SinkFailed → Rose (S.faults out.old) (S.faults out.new) }
     ensures formed { IfOk result (λ ending. ending ≢ Ending.NotAForm) }
     ensures read { IfOk result (λ ending. ending ≢ Ending.NotRead) }
@@ -57,26 +71,28 @@ fn check_bytes<S: Sink>(
         return Ok(Ending::NotText);
     };
     match Doc::new(alloc, text) {
-        Ok(doc) => report_text(alloc, name, &doc, out),
+        Ok(doc) => report_text(alloc, prover, name, &doc, out, steps),
         Err(DocStop::NoMem) => Err(Halt::NoMem),
         Err(_) => Ok(Ending::NotText),
     }
 }
 
 /// Reads a file and reports it.
-pub fn check_file<S: Sink, F: FileSet>(
+pub fn check_file<S: Sink, F: FileSet, P: Prover, C: Ledger>(
     alloc: Global,
+    prover: &P,
     name: &str,
     out: &mut S,
     files: &mut F,
+    steps: &mut Steps<C>,
 ) -> Result<Ending, Halt>
-    ensures told { IfSome (F.content files.old) (λ listed. EndsAs (file_outcome name.now (file_at listed name.now)) result (S.written out.old) (S.written out.new)) }
+    ensures told { IfSome (F.content files.old) (λ listed. EndsAs (file_outcome (λ text. checked P.first P.after P.diagnosed P.opened P.outline_of text) name.now (file_at listed name.now)) result (S.written out.old) (S.written out.new)) }
     ensures failed { IsErrOf result Halt.SinkFailed → Rose (S.faults out.old) (S.faults out.new) }
     ensures formed { IfOk result (λ ending. ending ≢ Ending.NotAForm) }
     ensures not_read { result ≡ Ok Ending.NotRead → Rose (F.faults files.old) (F.faults files.new) }
 {
     match files.read(alloc, name) {
-        Ok(bytes) => check_bytes(alloc, name, bytes.as_slice(), out),
+        Ok(bytes) => check_bytes(alloc, prover, name, bytes.as_slice(), out, steps),
         Err(FileFault::Failed) => Ok(Ending::NotRead),
         Err(FileFault::TooLong) => Ok(Ending::NotText),
         Err(FileFault::NoMem) => Err(Halt::NoMem),

@@ -2,19 +2,24 @@
 //! sentences are refused.
 #![tactic(auto)]
 
+ghost use Rattle.std.specs.Prelude.{◌≡◌, ◌<◌};
+
+mod checking;
 mod checks;
 mod endings;
-mod messages;
 mod reports;
 mod run;
 mod words;
 mod write;
 
-use base_core::{DirFiles, StdSink};
+use base_core::{DirFiles, FileSet, Sink, StdSink, Steps};
+use std::alloc::Global;
 use std::env;
 use std::io::ErrorKind;
+use std::marker::Brand;
 use std::process::ExitCode;
 use std::rt::{Env, Files};
+use std::sync::ledger::{Blank, Ledger};
 
 const USAGE: &str = "usage: fleche check FILE\n";
 
@@ -31,12 +36,34 @@ fn command_line<R: Env + AllocGlobal>(rt: &R) -> Result<Vec<String>, u8> {
     }
 }
 
+/// Runs the words over a ledger of its own, which counts the work.
+fn counted<C: Ledger, S: Sink, F: FileSet>(
+    alloc: Global,
+    words: &[String],
+    out: &mut S,
+    files: &mut F,
+    blank: Blank,
+) -> u8
+    requires name { blank.name ≡ C.name }
+    requires parts { blank.parts ≡ C.parts }
+    requires some { 0 < C.parts }
+{
+    let mut steps: Steps<C> = Steps::new(blank);
+    run::run(alloc, words, out, files, &mut steps)
+}
+
 fn main(rt: HostRuntime) -> ExitCode {
     let status = match command_line(&rt) {
         Ok(words) => {
             let mut out = StdSink::new(&rt);
             let mut files = DirFiles::new(&rt);
-            run::run(rt.alloc(), words.as_slice(), &mut out, &mut files)
+            counted::<Brand, _, _>(
+                rt.alloc(),
+                words.as_slice(),
+                &mut out,
+                &mut files,
+                Blank::new(1),
+            )
         }
         Err(status) => status,
     };

@@ -1,84 +1,187 @@
-ghost use Rattle.std.specs.Prelude.{◌≡◌, ◌++◌, ◌+◌, ◌<◌, ◌≤◌, All, IfOk, OnOk, length, string_bytes};
-ghost use Rattle.cic_prover.specs.Check.{IsPlaced};
-ghost use Rattle.fleche_main.specs.Reports.{refusal_line, refusal_lines, axiom_line, axiom_lines, end_line, report_lines};
+ghost use Rattle.std.specs.Prelude.{◌≡◌, ◌==◌, ◌++◌, ◌+◌, ◌<◌, ◌≤◌, All, IfOk, OnOk, length, string_bytes};
+ghost use Rattle.prover_iface.specs.Check.{IsPlaced};
+ghost use Rattle.fleche_main.specs.Reports.{severity_word, diag_line, diag_lines, kind_word, lists_axioms, spaced, bracket, listed_axioms, item_line, item_lines, is_admitted, error_count, admission_count, end_line, file_report};
 
-use crate::messages::message;
-use cic_prover::{AxiomItem, PlainRefusal, PlainReport};
+use base_core::Text;
+use prover_iface::{ItemKind, OutlineItem, RelDiag, Report};
 use std::alloc::{AllocError, Global};
 use utf16_doc::Doc;
 
-/// `FILE:L:C: error CODE: TEXT`, with line and character from 1.
-fn add_refusal(
-    lines: &mut String,
-    name: &str,
-    doc: &Doc,
-    refusal: &PlainRefusal,
-) -> Result<(), AllocError>
-    requires { refusal.now.from ≤ length doc.now }
-    ensures { OnOk result (string_bytes lines.new ≡ string_bytes lines.old ++ refusal_line name.now doc.now refusal.now) }
+fn severity_word(severity: u8) -> &'static str
+    ensures { result.now ≡ severity_word severity }
 {
-    let at = doc.position_of(refusal.from as usize);
+    match severity {
+        1 => "error",
+        2 => "warning",
+        _ => "info",
+    }
+}
+
+/// `FILE:L:C: SEV CODE: TEXT`, with line and character from 1.
+fn add_diag(lines: &mut String, name: &str, doc: &Doc, diag: &RelDiag) -> Result<(), AllocError>
+    requires { diag.now.from ≤ length doc.now }
+    ensures { OnOk result (string_bytes lines.new ≡ string_bytes lines.old ++ diag_line name.now doc.now diag.now) }
+{
+    let at = doc.position_of(diag.from as usize);
     let line = u64::from(at.line) + 1;
     let character = u64::from(at.character) + 1;
-    let code = refusal.code;
-    let text = message(code);
-    write!(lines, "{name}:{line}:{character}: error {code}: {text}\n")
+    let severity = severity_word(diag.severity);
+    let code = diag.code;
+    let text = diag.text.as_str();
+    write!(
+        lines,
+        "{name}:{line}:{character}: {severity} {code}: {text}\n"
+    )
 }
 
-/// `FILE: axiom NAME : SORT`.
-fn add_axiom(lines: &mut String, name: &str, item: &AxiomItem) -> Result<(), AllocError>
-    ensures { OnOk result (string_bytes lines.new ≡ string_bytes lines.old ++ axiom_line name.now item.now) }
+fn add_diags(lines: &mut String, name: &str, doc: &Doc, diags: &[RelDiag]) -> Result<(), AllocError>
+    requires { All (IsPlaced (length doc.now)) diags.now }
+    ensures { OnOk result (string_bytes lines.new ≡ string_bytes lines.old ++ diag_lines name.now doc.now diags.now) }
 {
+    for diag in diags {
+        add_diag(lines, name, doc, diag)?;
+    }
+    Ok(())
+}
+
+fn kind_word(kind: ItemKind) -> &'static str
+    ensures { result.now ≡ kind_word kind }
+{
+    match kind {
+        ItemKind::Axiom => "axiom",
+        ItemKind::Definition => "definition",
+        ItemKind::Inductive => "inductive",
+        ItemKind::Theorem => "theorem",
+        ItemKind::Admitted => "admitted",
+    }
+}
+
+/// Whether the axioms of such a declaration are listed.
+fn lists_axioms(kind: ItemKind) -> bool
+    ensures { result ≡ lists_axioms kind }
+{
+    match kind {
+        ItemKind::Axiom => false,
+        ItemKind::Definition => true,
+        ItemKind::Inductive => false,
+        ItemKind::Theorem => true,
+        ItemKind::Admitted => false,
+    }
+}
+
+/// Each name with a blank before it.
+fn add_spaced(lines: &mut String, names: &[Text]) -> Result<(), AllocError>
+    ensures { OnOk result (string_bytes lines.new ≡ string_bytes lines.old ++ spaced names.now) }
+{
+    for name in names {
+        let name = name.as_str();
+        write!(lines, " {name}")?;
+    }
+    Ok(())
+}
+
+/// ` [` the names `]`, where there are some.
+fn add_bracket(lines: &mut String, names: &[Text]) -> Result<(), AllocError>
+    ensures { OnOk result (string_bytes lines.new ≡ string_bytes lines.old ++ bracket names.now) }
+{
+    match names {
+        [] => Ok(()),
+        [first, others @ ..] => {
+            let first = first.as_str();
+            write!(lines, " [{first}")?;
+            add_spaced(lines, others)?;
+            write!(lines, "]")
+        }
+    }
+}
+
+fn add_listed(lines: &mut String, item: &OutlineItem) -> Result<(), AllocError>
+    ensures { OnOk result (string_bytes lines.new ≡ string_bytes lines.old ++ listed_axioms item.now) }
+{
+    if lists_axioms(item.kind) {
+        add_bracket(lines, item.axioms.as_slice())
+    } else {
+        Ok(())
+    }
+}
+
+/// `FILE: KIND NAME : STATEMENT`, and the listed axioms.
+fn add_item(lines: &mut String, name: &str, item: &OutlineItem) -> Result<(), AllocError>
+    ensures { OnOk result (string_bytes lines.new ≡ string_bytes lines.old ++ item_line name.now item.now) }
+{
+    let kind = kind_word(item.kind);
     let declared = item.name.as_str();
-    let sort = item.sort.as_str();
-    write!(lines, "{name}: axiom {declared} : {sort}\n")
+    let statement = item.statement.as_str();
+    write!(lines, "{name}: {kind} {declared} : {statement}")?;
+    add_listed(lines, item)?;
+    write!(lines, "\n")
 }
 
-/// `FILE: end E errors A admissions`; nothing can be admitted yet.
-fn add_end(lines: &mut String, name: &str, errors: usize) -> Result<(), AllocError>
-    ensures { OnOk result (string_bytes lines.new ≡ string_bytes lines.old ++ end_line name.now errors) }
+fn add_items(lines: &mut String, name: &str, items: &[OutlineItem]) -> Result<(), AllocError>
+    ensures { OnOk result (string_bytes lines.new ≡ string_bytes lines.old ++ item_lines name.now items.now) }
 {
-    write!(lines, "{name}: end {errors} errors 0 admissions\n")
+    for item in items {
+        add_item(lines, name, item)?;
+    }
+    Ok(())
 }
 
-fn add_refusals(
+/// How many diagnostics are errors.
+pub fn error_count(diags: &[RelDiag]) -> usize
+    ensures { result ≡ error_count diags.now }
+{
+    diags.iter().filter(|diag| diag.severity == 1).count()
+}
+
+fn is_admitted(kind: ItemKind) -> bool
+    ensures { result ≡ is_admitted kind }
+{
+    match kind {
+        ItemKind::Axiom => false,
+        ItemKind::Definition => false,
+        ItemKind::Inductive => false,
+        ItemKind::Theorem => false,
+        ItemKind::Admitted => true,
+    }
+}
+
+/// How many declarations are admitted.
+pub fn admission_count(items: &[OutlineItem]) -> usize
+    ensures { result ≡ admission_count items.now }
+{
+    items.iter().filter(|item| is_admitted(item.kind)).count()
+}
+
+/// `FILE: end E errors A admissions`.
+fn add_end(
     lines: &mut String,
     name: &str,
-    doc: &Doc,
-    refusals: &[PlainRefusal],
+    errors: usize,
+    admissions: usize,
 ) -> Result<(), AllocError>
-    requires { All (IsPlaced (length doc.now)) refusals.now }
-    ensures { OnOk result (string_bytes lines.new ≡ string_bytes lines.old ++ refusal_lines name.now doc.now refusals.now) }
+    ensures { OnOk result (string_bytes lines.new ≡ string_bytes lines.old ++ end_line name.now errors admissions) }
 {
-    for refusal in refusals {
-        add_refusal(lines, name, doc, refusal)?;
-    }
-    Ok(())
+    write!(
+        lines,
+        "{name}: end {errors} errors {admissions} admissions\n"
+    )
 }
 
-fn add_axioms(lines: &mut String, name: &str, axioms: &[AxiomItem]) -> Result<(), AllocError>
-    ensures { OnOk result (string_bytes lines.new ≡ string_bytes lines.old ++ axiom_lines name.now axioms.now) }
-{
-    for item in axioms {
-        add_axiom(lines, name, item)?;
-    }
-    Ok(())
-}
-
-/// All lines of a file: its refusals, its axioms, the totals.
+/// All lines of a file: its diagnostics, its outline, the totals.
 pub fn report_lines(
     alloc: Global,
     name: &str,
     doc: &Doc,
-    report: &PlainReport,
+    report: &Report,
 ) -> Result<String, AllocError>
-    requires { All (IsPlaced (length doc.now)) report.now.refusals }
-    ensures { IfOk result (λ lines. string_bytes lines ≡ report_lines name.now doc.now report.now) }
+    requires { All (IsPlaced (length doc.now)) report.now.diags }
+    ensures { IfOk result (λ lines. string_bytes lines ≡ file_report name.now doc.now report.now) }
 {
     let mut lines = String::new(alloc);
-    let refusals = report.refusals.as_slice();
-    add_refusals(&mut lines, name, doc, refusals)?;
-    add_axioms(&mut lines, name, report.axioms.as_slice())?;
-    add_end(&mut lines, name, refusals.len())?;
+    let diags = report.diags.as_slice();
+    let items = report.outline.as_slice();
+    add_diags(&mut lines, name, doc, diags)?;
+    add_items(&mut lines, name, items)?;
+    add_end(&mut lines, name, error_count(diags), admission_count(items))?;
     Ok(lines)
 }

@@ -5,6 +5,7 @@ use Rattle.sentence_split.specs.declared.spans.Span.{Span}
 use Rattle.prover_iface.specs.declared.diagnostics.RelDiag.{RelDiag}
 use Rattle.sentence_split.specs.Sentences.{sentences}
 use Rattle.prover_iface.specs.declared.outline.OutlineItem.{OutlineItem}
+use Rattle.prover_iface.specs.declared.reports.Report.{Report}
 use Rattle.prover_iface.specs.Sentences.{Sentence, sentence_at}
 use Rattle.prover_iface.specs.Exec.{fold_exec}
 
@@ -30,11 +31,6 @@ whole_error code text span = record { severity = 1; code = code; from = span.fro
 abbrev pub left_open : Option ℕ → List Span → List RelDiag
 left_open None spans = []
 left_open (Some n) spans = whole_error 58 (codes "proof not ended") (slice_index_or spans n (record { from = 0; to = 0; kind = Plain })) ∷ []
-
--- what is told of a text, and what it declares
-pub record Report : Type 0 where
-  pub diags : List RelDiag
-  pub outline : List OutlineItem
 
 -- the report of sentences of a text, by a prover's first state, its states behind a sentence, what it
 -- tells of one, and the proof and the outline of a state

@@ -6,8 +6,10 @@ mod diagnostics;
 mod goals;
 mod outline;
 mod prover;
+mod reports;
 
 pub use diagnostics::{DiagList, RelDiag};
 pub use goals::{GoalView, GoalsView, HypView, HypViewList, LevelList, ViewList};
 pub use outline::{ItemKind, OutlineItem, OutlineList, TextList};
 pub use prover::{Outcome, Prover};
+pub use reports::Report;

@@ -65,7 +65,15 @@ pub trait Prover: Drop {
         ensures { IfOk result (λ s. meaning s ≡ meaning state.now) };
 
     /// Runs a sentence with so many units. It is done exactly where its cost is at most these.
-    fn exec<C: Ledger>(&self, alloc: Global, state: &Self::State, kind: Kind, text: &str, units: u32, steps: &mut Steps<C>) -> Result<Outcome<Self::State>, NoMem>
+    fn exec<C: Ledger>(
+        &self,
+        alloc: Global,
+        state: &Self::State,
+        kind: Kind,
+        text: &str,
+        units: u32,
+        steps: &mut Steps<C>,
+    ) -> Result<Outcome<Self::State>, NoMem>
         requires fit { IsFit kind text.now }
         requires short { length text.now < 2 ^ 32 }
         ensures answer { IfOk result (Answers meaning (after (meaning state.now) (sentence kind text.now)) (diagnosed (meaning state.now) (sentence kind text.now)) (cost (meaning state.now) (sentence kind text.now)) units) }

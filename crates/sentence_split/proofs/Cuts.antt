@@ -1,5 +1,5 @@
 -- Sentences stand between characters, and their bytes fit their kinds.
-use Rattle.std.proofs.Common.{◌≡◌, ℕ, ◌+◌, ◌-◌, ◌<◌, ◌≤◌, ◌⊎◌, Bool, true, false, eqb, List, [], ◌∷◌, ◌++◌, length, get_or, take, drop, replicate, length-append, append_assoc, append-nil, zero, suc, refl, sym, ◌∙◌, ap, subst, inl, inr, arith, All}
+use Rattle.std.proofs.Common.{◌≡◌, ℕ, ◌+◌, ◌-◌, ◌<◌, ◌⊎◌, true, List, [], ◌∷◌, ◌++◌, length, get_or, take, drop, replicate, length-append, append_assoc, zero, suc, refl, sym, ◌∙◌, ap, subst, arith, All}
 use Rattle.std.specs.List.{AllByRecursion, slice_range}
 use Rattle.std.specs.Str.{IsUtf8, IsCharBoundary}
 use Rattle.std.proofs.lemmas.Bool.Decides.{nat_tests}
@@ -8,10 +8,10 @@ use Rattle.std.proofs.lemmas.List.Elements.{All-from_recursion}
 use Rattle.std.proofs.lemmas.Str.{IsUtf8-nil, IsUtf8-drop, IsCharBoundary-after_ascii, IsCharBoundary-at_seam}
 use Rattle.base_core.specs.declared.kind.Kind.{Kind}
 use Rattle.base_core.specs.declared.kind.Kind.TheVariants.{Plain, Bullet, BraceOpen, BraceClose, Unfinished}
-use Rattle.base_core.specs.Fit.{IsBulletText, EndsInPeriod, IsFit}
+use Rattle.base_core.specs.Fit.{EndsInPeriod, IsFit}
 use Rattle.sentence_split.specs.declared.spans.Span.{Span}
 use Rattle.sentence_split.specs.Items.{Items, End, Comment, Quotation, Byte, spells, is_blank, IsGap}
-use Rattle.sentence_split.specs.Split.{is_bullet, IsRun, IsSentence, EndsFirst, IsNext, IsSplit}
+use Rattle.sentence_split.specs.Split.{is_bullet, IsSentence, EndsFirst, IsNext, IsSplit}
 use Rattle.sentence_split.specs.Within.{IsSpanOf}
 use Rattle.sentence_split.proofs.Passes.{spells-append}
 
@@ -22,8 +22,8 @@ after_ascii front tail b small text =
     let size : length (front ++ (b ∷ tail)) ≡ length front + suc (length tail) = length-append front (b ∷ tail) in
     let rest : drop (length front + 1) (front ++ (b ∷ tail)) ≡ tail = grind (arith, common_steps) in
     subst IsUtf8 rest
-      (IsUtf8-drop (front ++ (b ∷ tail)) (length front + 1) text
-        (IsCharBoundary-after_ascii (front ++ (b ∷ tail)) (length front) text (omega (arith, size)) (omega (arith, at))))
+    (IsUtf8-drop (front ++ (b ∷ tail)) (length front + 1) text
+    (IsCharBoundary-after_ascii (front ++ (b ∷ tail)) (length front) text (omega (arith, size)) (omega (arith, at))))
 
 blank-ascii : (b : ℕ) → is_blank b ≡ true → b < 128
 blank-ascii b e = grind (arith, nat_tests)
@@ -64,7 +64,7 @@ period_front : (sentence rest : List ℕ) → EndsFirst (sentence ++ rest) rest 
 period_front sentence rest e =
     let stretch = e.ends.stretch in
     let whole : sentence ++ rest ≡ (spells stretch [] ++ (46 ∷ [])) ++ rest =
-      e.ends.spelled ∙ spells-append stretch [] (46 ∷ rest) ∙ sym (append_assoc (spells stretch []) (46 ∷ []) rest) in
+    e.ends.spelled ∙ spells-append stretch [] (46 ∷ rest) ∙ sym (append_assoc (spells stretch []) (46 ∷ []) rest) in
     record { front = spells stretch []; parts = same_front sentence (spells stretch [] ++ (46 ∷ [])) rest whole }
 
 period_text : (sentence rest : List ℕ) → EndsInPeriod sentence → IsUtf8 (sentence ++ rest) → IsUtf8 rest
@@ -107,16 +107,17 @@ one_span whole before text span rest e utf8 n =
     let begun : IsUtf8 (n.sentence ++ rest) = past_gap n.gap (n.sentence ++ rest) n.is_gap (subst IsUtf8 n.spelled utf8) in
     let cut = cut_off span.kind n.sentence rest n.is_one in
     let left : IsUtf8 rest = cut.text begun in
-    let to_end : length (front ++ n.sentence) ≡ span.to = omega (arith, ends, to) in
-    (record {
-       ordered = omega (arith, from, to);
-       within = omega (arith, to, size, inner);
-       from_cut = subst (IsCharBoundary whole) (sym from) (IsCharBoundary-at_seam whole front (n.sentence ++ rest) parts begun);
-       to_cut = subst (IsCharBoundary whole) to_end (IsCharBoundary-at_seam whole (front ++ n.sentence) rest behind left);
-       fit = subst (IsFit span.kind) (sym (ap (λ t. slice_range t span.from span.to) parts ∙ slice_of front n.sentence rest span.from span.to from to)) cut.fit;
-     },
-     left,
-     (front ++ n.sentence, behind))
+    let to_end : length (front ++ n.sentence) ≡ span.to = omega (arith, ends, to) in (
+      record {
+        ordered = omega (arith, from, to);
+        within = omega (arith, to, size, inner);
+        from_cut = subst (IsCharBoundary whole) (sym from) (IsCharBoundary-at_seam whole front (n.sentence ++ rest) parts begun);
+        to_cut = subst (IsCharBoundary whole) to_end (IsCharBoundary-at_seam whole (front ++ n.sentence) rest behind left);
+        fit = subst (IsFit span.kind) (sym (ap (λ t. slice_range t span.from span.to) parts ∙ slice_of front n.sentence rest span.from span.to from to)) cut.fit;
+      },
+      left,
+      (front ++ n.sentence, behind),
+    )
 
 each_span : (whole before text : List ℕ) (spans : List Span) → whole ≡ before ++ text → IsUtf8 text → IsSplit (length whole) text spans → AllByRecursion (IsSpanOf whole) spans
 each_span whole before text [] e utf8 h = tt

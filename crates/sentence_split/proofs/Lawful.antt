@@ -1,19 +1,19 @@
 -- The function gives the sentences of the text.
-use Rattle.std.proofs.Common.{◌≡◌, ℕ, ◌+◌, ◌-◌, ◌<◌, ◌≤◌, Bool, true, false, cond, eqb, Option, None, Some, List, [], ◌∷◌, ◌++◌, ◌||◌, length, take, drop, replicate, length-append, length-drop, append_assoc, append-nil, zero, suc, refl, sym, ◌∙◌, ap, subst, arith}
+use Rattle.std.proofs.Common.{◌≡◌, ℕ, ◌+◌, ◌-◌, ◌<◌, ◌≤◌, Bool, true, false, cond, eqb, Option, None, Some, List, [], ◌∷◌, ◌++◌, length, take, drop, replicate, length-append, length-drop, zero, suc, refl, sym, ◌∙◌, ap, subst, arith}
 use Rattle.std.specs.List.{prefix_len}
 use Rattle.std.proofs.lemmas.Bool.Decides.{nat_tests}
 use Rattle.std.proofs.lemmas.Grind.{common_steps}
 use Rattle.std.proofs.lemmas.List.{take-append-drop}
 use Rattle.std.proofs.lemmas.List.Sums.{prefix_len-le-length}
 use Rattle.base_core.specs.declared.kind.Kind.{Kind}
-use Rattle.base_core.specs.declared.kind.Kind.TheVariants.{Plain, Bullet, BraceOpen, BraceClose, Unfinished}
+use Rattle.base_core.specs.declared.kind.Kind.TheVariants.{Bullet, BraceOpen, BraceClose}
 use Rattle.sentence_split.specs.declared.spans.Span.{Span}
 use Rattle.sentence_split.specs.declared.pieces.Piece.{Piece}
 use Rattle.sentence_split.specs.declared.pieces.Piece.TheVariants.{Gap, Sentence}
 use Rattle.sentence_split.specs.Items.{Items, End, Comment, Byte, spells, begins, opens, AreItems, IsGap, is_blank}
-use Rattle.sentence_split.specs.Split.{is_bullet, is_sign, is_ended, Ends, EndsFirst, IsRun, BeginsNoSign, IsSentence, BeginsSentence, IsNext, IsAllGap, IsSplit}
+use Rattle.sentence_split.specs.Split.{is_bullet, is_sign, Ends, EndsFirst, IsRun, BeginsNoSign, IsSentence, BeginsSentence, IsSplit}
 use Rattle.sentence_split.specs.Scan.{sentence_end, comment_end}
-use Rattle.sentence_split.specs.Sentences.{plain_piece, comment_piece, first_piece, with_piece, sentences}
+use Rattle.sentence_split.specs.Sentences.{plain_piece, comment_piece, first_piece, sentences}
 use Rattle.sentence_split.proofs.Passing.{sentences-gap, sentences-sentence}
 use Rattle.sentence_split.proofs.Passes.{spells-append, length-spells, none_some, ends_first, ends_never, commented, comment_found, Commented}
 

@@ -1,10 +1,8 @@
 -- Items are passed by a scan, and the end of a sentence is found.
-use Rattle.std.proofs.Common.{◌≡◌, ℕ, ◌+◌, ◌≤◌, Bool, true, false, cond, eqb, Option, None, Some, List, [], ◌∷◌, ◌++◌, ◌&&◌, length, length-append, append_assoc, append-nil, zero, suc, refl, sym, ◌∙◌, ap, subst, arith}
+use Rattle.std.proofs.Common.{◌≡◌, ℕ, ◌≤◌, Bool, true, false, cond, eqb, Option, None, Some, List, [], ◌∷◌, ◌++◌, ◌&&◌, length, length-append, append_assoc, suc, refl, sym, ◌∙◌, ap, subst, arith}
 use Rattle.std.proofs.lemmas.Bool.Decides.{nat_tests}
-use Rattle.sentence_split.specs.declared.scan.Mode.{Mode}
 use Rattle.sentence_split.specs.declared.scan.Mode.TheVariants.{Item, Quoted, Second}
-use Rattle.sentence_split.specs.declared.scan.State.{State}
-use Rattle.sentence_split.specs.Items.{Items, End, Comment, Quotation, Byte, spells, begins, opens, closes, HasNoQuote, AreItems, IsStretch}
+use Rattle.sentence_split.specs.Items.{Items, End, Comment, Quotation, Byte, spells, opens, HasNoQuote, AreItems, IsStretch}
 use Rattle.sentence_split.specs.Split.{is_ended, Ends, EndsFirst}
 use Rattle.sentence_split.specs.Scan.{state, item_step, step, or_else, scan, at_period, sentence_end, comment_end}
 use Rattle.sentence_split.proofs.Scanned.{flat-byte, step-byte, opened, sound}

@@ -1,5 +1,5 @@
 -- Sentences, one piece after another.
-use Rattle.std.proofs.Common.{◌≡◌, ℕ, ◌+◌, ◌-◌, ◌<◌, ◌≤◌, List, [], ◌∷◌, ◌++◌, length, get_or, take, drop, length-drop, append_assoc, zero, suc, refl, sym, ◌∙◌, ap, subst, arith, add-zero}
+use Rattle.std.proofs.Common.{◌≡◌, ℕ, ◌+◌, ◌-◌, ◌<◌, ◌≤◌, List, [], ◌∷◌, ◌++◌, length, get_or, take, drop, length-drop, append_assoc, zero, suc, refl, sym, ◌∙◌, ap, arith, add-zero}
 use Rattle.std.proofs.lemmas.Grind.{common_steps}
 use Rattle.base_core.specs.declared.kind.Kind.{Kind}
 use Rattle.sentence_split.specs.declared.spans.Span.{Span}

@@ -1,10 +1,10 @@
 -- What a scan passes: items, and a closing mark for each open comment.
-use Rattle.std.proofs.Common.{◌≡◌, ℕ, ◌+◌, ◌≤◌, Bool, true, false, cond, eqb, Option, None, Some, List, [], ◌∷◌, ◌++◌, length, zero, suc, refl, sym, ◌∙◌, ap, subst, arith}
+use Rattle.std.proofs.Common.{◌≡◌, ℕ, Bool, true, false, eqb, Option, None, Some, List, [], ◌∷◌, ◌++◌, zero, suc, refl, sym, ◌∙◌, ap, subst, arith}
 use Rattle.std.proofs.lemmas.Bool.Decides.{nat_tests}
 use Rattle.sentence_split.specs.declared.scan.Mode.{Mode}
 use Rattle.sentence_split.specs.declared.scan.Mode.TheVariants.{Item, Quoted, Second}
 use Rattle.sentence_split.specs.declared.scan.State.{State}
-use Rattle.sentence_split.specs.Items.{Items, End, Comment, Quotation, Byte, spells, begins, opens, closes, HasNoQuote, AreItems, IsStretch}
+use Rattle.sentence_split.specs.Items.{Items, End, Comment, Quotation, Byte, spells, opens, closes, HasNoQuote, AreItems}
 use Rattle.sentence_split.specs.Scan.{state, item_step, step, or_else, scan}
 
 -- items and a closing mark, and then something

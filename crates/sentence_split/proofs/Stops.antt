@@ -1,5 +1,5 @@
 -- Where a scan for the end of a comment stops.
-use Rattle.std.proofs.Common.{◌≡◌, ℕ, List, [], ◌∷◌, Some, zero, suc, refl, sym, ◌∙◌, ap, subst}
+use Rattle.std.proofs.Common.{◌≡◌, ℕ, List, [], ◌∷◌, Some, refl, ◌∙◌, ap}
 use Rattle.sentence_split.specs.declared.scan.Mode.{Mode}
 use Rattle.sentence_split.specs.declared.scan.Mode.TheVariants.{Item}
 use Rattle.sentence_split.specs.Scan.{scan}

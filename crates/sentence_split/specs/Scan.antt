@@ -1,5 +1,5 @@
 -- What a scan of the bytes finds, which counts how many comments are open.
-use Rattle.std.specs.Prelude.{◌==◌, ℕ, suc, zero, ◌+◌, ◌-◌, nat_lt, ◌&&◌, Bool, Option, None, Some, List, [], ◌∷◌, if◌then◌else◌}
+use Rattle.std.specs.Prelude.{◌==◌, ℕ, suc, zero, ◌+◌, ◌-◌, nat_lt, ◌&&◌, Option, None, Some, List, [], ◌∷◌, if◌then◌else◌}
 use Rattle.sentence_split.specs.declared.scan.Mode.{Mode}
 use Rattle.sentence_split.specs.declared.scan.Mode.TheVariants.{Item, Quoted, Second}
 use Rattle.sentence_split.specs.declared.scan.State.{State}

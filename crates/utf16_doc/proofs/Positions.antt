@@ -1,5 +1,5 @@
 -- A position, by the parts that the code finds.
-use Rattle.std.proofs.Common.{◌≡◌, ℕ, ◌+◌, ◌-◌, ◌≤◌, leb, List, ◌∷◌, get_or, refl, sym, ◌∙◌, ap, subst, arith}
+use Rattle.std.proofs.Common.{◌≡◌, ℕ, ◌-◌, ◌≤◌, leb, List, ◌∷◌, get_or, sym, ◌∙◌, ap, subst, arith}
 use Rattle.std.specs.List.{count_by, sum_by, slice_range}
 use Rattle.base_core.specs.declared.places.Position.{Position}
 use Rattle.utf16_doc.specs.Lines.{line_ends}

@@ -1,6 +1,8 @@
-use crate::run::run;
+use crate::counted;
 use base_core::{Bytes, FileItem, FileList, MemFiles, MemSink, NoMem, NumberList, Text};
 use std::alloc::Global;
+use std::marker::Brand;
+use std::sync::ledger::Blank;
 use std::test::Fail;
 
 /// Runs words over one file `a.v`, and gives the status and what was written.
@@ -25,7 +27,7 @@ fn outcome(
     })?;
     let mut files = MemFiles::new(listed);
     let mut out = MemSink::new(alloc, room, NumberList::new(alloc))?;
-    let status = run(alloc, all.as_slice(), &mut out, &mut files);
+    let status = counted::<Brand, _, _>(alloc, all.as_slice(), &mut out, &mut files, Blank::new(1));
     Ok((status, out.written().to_vec(alloc)?))
 }
 

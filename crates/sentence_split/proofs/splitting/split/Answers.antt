@@ -1,4 +1,4 @@
-use Rattle.std.proofs.Common.{◌≡◌, ℕ, List, ◌-◌, take, drop, length, length-drop, refl, sym, subst, ap, arith}
+use Rattle.std.proofs.Common.{◌≡◌, ℕ, List, length, length-drop, refl, sym, subst, ap, arith}
 use Rattle.sentence_split.specs.declared.spans.Span.{Span}
 use Rattle.sentence_split.specs.Sentences.{sentences}
 use Rattle.sentence_split.specs.Split.{IsSplit}

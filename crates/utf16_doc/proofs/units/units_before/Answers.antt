@@ -1,5 +1,4 @@
-use Rattle.std.proofs.Common.{◌≡◌, ◌*◌, ◌/◌, get_or, arith}
-use Rattle.utf16_doc.specs.Units.{units_before}
+use Rattle.std.proofs.Common.{◌/◌, arith}
 use Rattle.utf16_doc.proofs.Sums.{units_before-le}
 use Rattle.utf16_doc.proofs.units.units_before.Goals as goal
 
