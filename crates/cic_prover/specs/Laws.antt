@@ -3,6 +3,7 @@ use Rattle.std.proofs.Common.{◌≡◌, ℕ, ◌+◌, ◌≤◌, List, [], ◌�
 use Rattle.std.specs.Str.{IsUtf8}
 use Rattle.std.proofs.lemmas.Str.{IsCharBoundary-start, IsCharBoundary-end}
 use Rattle.std.proofs.lemmas.List.Elements.{All-push}
+use Rattle.base_core.specs.Fit.{IsFit}
 use Rattle.prover_iface.specs.declared.outline.OutlineItem.{OutlineItem}
 use Rattle.prover_iface.specs.Sentences.{Sentence}
 use Rattle.prover_iface.specs.Exec.{fold_exec}
@@ -29,8 +30,8 @@ told-placed text (Refused code) utf8 =
     (record { severe = omega arith; mild = omega arith; ordered = omega arith; from_cut = IsCharBoundary-start text utf8; to_cut = IsCharBoundary-end text })
 told-placed text (Declares name sort) utf8 = no_diags text
 
-pub diagnosed-placed : (m : Declared) (s : Sentence) → IsUtf8 s.text → All (IsDiag s.text) (diagnosed m s)
-diagnosed-placed m s utf8 = told-placed s.text (verdict m s.kind s.text) utf8
+pub diagnosed-placed : (m : Declared) (s : Sentence) → IsUtf8 s.text → IsFit s.kind s.text → All (IsDiag s.text) (diagnosed m s)
+diagnosed-placed m s utf8 fit = told-placed s.text (verdict m s.kind s.text) utf8
 
 -- the state after so many sentences counts no more, and declares by those
 record IsAfter (n : ℕ) (m : Declared) : Type 0 where

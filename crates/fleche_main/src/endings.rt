@@ -8,11 +8,11 @@ use thiserror::Error;
 /// How a run ends where memory serves and each put is taken.
 #[derive(Clone, Copy, Debug, PartialEq, Eq)]
 pub enum Ending {
-    /// All files were reported, without an error.
+    /// All files were reported, without an error or an admission.
     Clean,
     /// The words are no form.
     NotAForm,
-    /// All files were reported, and some have errors.
+    /// All files were reported, and some have an error or an admission.
     Unclean,
     /// A file was not read.
     NotRead,

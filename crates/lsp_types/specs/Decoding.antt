@@ -14,14 +14,14 @@ use Rattle.lsp_types.specs.Requests.{request}
 use Rattle.lsp_types.specs.Notifications.{note}
 
 -- a message without a method is a response; one with a method is a request where it has an id
-abbrev pub sorted : Option (List ℕ) → Option Id → Data → Result Incoming DecodeFault
-sorted None id message = Ok incoming.Reply
-sorted (Some name) (Some id) message = request name id message
-sorted (Some name) None message = Ok (incoming.Note (note name message))
+abbrev pub classified : Option (List ℕ) → Option Id → Data → Result Incoming DecodeFault
+classified None id message = Ok incoming.Reply
+classified (Some name) (Some id) message = request name id message
+classified (Some name) None message = Ok (incoming.Note (note name message))
 
 -- the message that a value is
 abbrev pub message_of : Data → Result Incoming DecodeFault
-message_of d = if is_message d then sorted (method_of d) (message_id d) d else Err (NotRequest (unwrap_or (message_id d) Null))
+message_of d = if is_message d then classified (method_of d) (message_id d) d else Err (NotRequest (unwrap_or (message_id d) Null))
 
 -- the value that a body is: a text in UTF-8, of JSON that nests at most 127 deep
 abbrev pub value_of : List ℕ → Option Data

@@ -1,7 +1,7 @@
 //! From the bytes of a body to the message that it is.
 ghost use Rattle.std.specs.Prelude.{◌≡◌, Some, IfOk, option_map};
 ghost use Rattle.serde_json.specs.View.{view};
-ghost use Rattle.lsp_types.specs.Decoding.{decoded, value_of, message_of, sorted, Answers};
+ghost use Rattle.lsp_types.specs.Decoding.{decoded, value_of, message_of, classified, Answers};
 
 use crate::envelope::{has_form, is_good_or_absent, message_id, method_of};
 use crate::notifications::note;
@@ -18,7 +18,7 @@ fn call_or_note(
     id: Option<Id>,
     message: &Value,
 ) -> Result<Incoming, DecodeFault>
-    ensures { Answers (sorted (Some name.now) id (view message.now)) result }
+    ensures { Answers (classified (Some name.now) id (view message.now)) result }
 {
     match id {
         Some(id) => request(alloc, name, id, message),

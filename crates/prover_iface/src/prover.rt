@@ -95,7 +95,7 @@ pub trait Prover: Drop {
     ghost bounded: { (m : Meaning) (s : Sentence) → cost m s ≤ 1000001 };
 
     /// What is told of a sentence stands at whole characters of it.
-    ghost placed: { (m : Meaning) (s : Sentence) → IsUtf8 s.text → All (IsDiag s.text) (diagnosed m s) };
+    ghost placed: { (m : Meaning) (s : Sentence) → IsUtf8 s.text → IsFit s.kind s.text → All (IsDiag s.text) (diagnosed m s) };
 
     /// The numbers that are answered are those of sentences before.
     ghost opened_before: { (sentences : List Sentence) → IfSome (opened (fold_exec after first sentences)) (λ n. n < length sentences) };

@@ -1,6 +1,6 @@
 ghost use Rattle.std.specs.Prelude.{◌≡◌, ◌^◌, ◌-◌, ◌<◌};
 
-use crate::checking::check_text;
+use doc_check::check_text;
 use base_core::{Kind, NoMem, Steps};
 use cic_prover::CicProver;
 use prover_iface::{DiagList, GoalsView, Outcome, OutlineList, Prover, Report};
@@ -47,7 +47,7 @@ impl Prover for CountProver {
 
     ghost bounded = { λ _ _. Prim.omega arith };
 
-    ghost placed = { λ _ _ _ _ _ h. absurd (Prim.omega arith) };
+    ghost placed = { λ _ _ _ _ _ _ h. absurd (Prim.omega arith) };
 
     ghost opened_before = { λ _. tt };
 

@@ -1,6 +1,6 @@
 use Rattle.std.proofs.Common.{◌≡◌, ◌++◌, drop}
 use Rattle.prover_iface.specs.Check.{told, state_after}
-use Rattle.fleche_main.proofs.checking.run_all.Given as goal
+use Rattle.doc_check.proofs.checking.run_all.Given as goal
 
 abbrev pub invariant-loop-span : goal.invariant-loop-span
 invariant-loop-span g l = let p = g.P.Prover in record {

@@ -1,6 +1,6 @@
 use Rattle.std.proofs.Common.{[], ◌∷◌, ◌++◌, sym, ◌∙◌, ap}
 use Rattle.prover_iface.specs.Check.{left_open}
-use Rattle.fleche_main.proofs.checking.add_left_open.Goals as goal
+use Rattle.doc_check.proofs.checking.add_left_open.Goals as goal
 
 pub returns-in_ok-push-clause-diags : goal.returns-in_ok-push-clause-diags
 returns-in_ok-push-clause-diags c =

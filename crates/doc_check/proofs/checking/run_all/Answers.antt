@@ -1,8 +1,8 @@
 use Rattle.std.proofs.Common.{◌≡◌, ◌++◌, arith}
 use Rattle.std.proofs.lemmas.Grind.{common_steps}
 use Rattle.prover_iface.specs.Check.{told, left_open}
-use Rattle.fleche_main.proofs.Placed.{all-placed}
-use Rattle.fleche_main.proofs.checking.run_all.Goals as goal
+use Rattle.doc_check.proofs.Placed.{all-placed}
+use Rattle.doc_check.proofs.checking.run_all.Goals as goal
 
 pub returns-clause-placed : goal.returns-clause-placed
 returns-clause-placed g c =

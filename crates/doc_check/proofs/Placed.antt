@@ -5,6 +5,7 @@ use Rattle.std.specs.Str.{IsUtf8}
 use Rattle.std.proofs.lemmas.List.Elements.{All-append, All-push, All-from_recursion, recursion_from_All}
 use Rattle.std.proofs.lemmas.Str.{IsUtf8-between}
 use Rattle.base_core.specs.declared.kind.Kind.TheVariants.{Plain}
+use Rattle.base_core.specs.Fit.{IsFit}
 use Rattle.sentence_split.specs.declared.spans.Span.{Span}
 use Rattle.sentence_split.specs.Within.{IsSpanOf}
 use Rattle.prover_iface.specs.declared.diagnostics.RelDiag.{RelDiag}
@@ -35,11 +36,11 @@ one-placed text span diags s h =
 sentence-utf8 : (text : List ℕ) (span : Span) → IsUtf8 text → IsSpanOf text span → IsUtf8 (slice_range text span.from span.to)
 sentence-utf8 text span utf8 s = IsUtf8-between text span.from span.to utf8 s.ordered s.from_cut s.to_cut
 
-told-placed : {M : Type 0} (after : M → Sentence → M) (diagnosed : M → Sentence → List RelDiag) (law : (m : M) (s : Sentence) → IsUtf8 s.text → All (IsDiag s.text) (diagnosed m s)) (text : List ℕ) → IsUtf8 text → (m : M) (spans : List Span) → AllByRecursion (IsSpanOf text) spans → All (IsPlaced (length text)) (told after diagnosed m text spans)
+told-placed : {M : Type 0} (after : M → Sentence → M) (diagnosed : M → Sentence → List RelDiag) (law : (m : M) (s : Sentence) → IsUtf8 s.text → IsFit s.kind s.text → All (IsDiag s.text) (diagnosed m s)) (text : List ℕ) → IsUtf8 text → (m : M) (spans : List Span) → AllByRecursion (IsSpanOf text) spans → All (IsPlaced (length text)) (told after diagnosed m text spans)
 told-placed after diagnosed law text utf8 m [] h = nothing_told (length text)
 told-placed after diagnosed law text utf8 m (span ∷ spans) h =
     All-append (IsPlaced (length text)) (map (shifted span.from) (diagnosed m (sentence_at text span))) (told after diagnosed (after m (sentence_at text span)) text spans)
-    (one-placed text span (diagnosed m (sentence_at text span)) h.0 (law m (sentence_at text span) (sentence-utf8 text span utf8 h.0)))
+    (one-placed text span (diagnosed m (sentence_at text span)) h.0 (law m (sentence_at text span) (sentence-utf8 text span utf8 h.0) h.0.fit))
     (told-placed after diagnosed law text utf8 (after m (sentence_at text span)) spans h.1)
 
 open-placed : (text : List ℕ) (opened : Option ℕ) (spans : List Span) → IfSome opened (λ n. n < length spans) → All (IsSpanOf text) spans → All (IsPlaced (length text)) (left_open opened spans)
@@ -49,7 +50,7 @@ open-placed text (Some n) spans h all =
     All-push (IsPlaced (length text)) [] _ (nothing_told (length text)) (record { from_within = omega (arith, s.ordered, s.within); to_within = s.within })
 
 -- all that is told
-pub all-placed : {M : Type 0} (after : M → Sentence → M) (diagnosed : M → Sentence → List RelDiag) (law : (m : M) (s : Sentence) → IsUtf8 s.text → All (IsDiag s.text) (diagnosed m s)) (text : List ℕ) (m : M) (opened : Option ℕ) (spans : List Span) (diags : List RelDiag) → IsUtf8 text → All (IsSpanOf text) spans → IfSome opened (λ n. n < length spans) → diags ≡ told after diagnosed m text spans ++ left_open opened spans → All (IsPlaced (length text)) diags
+pub all-placed : {M : Type 0} (after : M → Sentence → M) (diagnosed : M → Sentence → List RelDiag) (law : (m : M) (s : Sentence) → IsUtf8 s.text → IsFit s.kind s.text → All (IsDiag s.text) (diagnosed m s)) (text : List ℕ) (m : M) (opened : Option ℕ) (spans : List Span) (diags : List RelDiag) → IsUtf8 text → All (IsSpanOf text) spans → IfSome opened (λ n. n < length spans) → diags ≡ told after diagnosed m text spans ++ left_open opened spans → All (IsPlaced (length text)) diags
 all-placed after diagnosed law text m opened spans diags utf8 all before is =
     subst (All (IsPlaced (length text))) (sym is)
     (All-append (IsPlaced (length text)) (told after diagnosed m text spans) (left_open opened spans)

@@ -41,7 +41,7 @@ fn add_shifted(
 }
 
 /// Runs the sentence at a place of a text.
-fn run_one<P: Prover, C: Ledger>(
+pub(crate) fn run_one<P: Prover, C: Ledger>(
     alloc: Global,
     prover: &P,
     state: &P::State,
@@ -83,7 +83,7 @@ fn whole_error(alloc: Global, code: u16, text: &str, span: &Span) -> Result<RelD
 }
 
 /// Refuses the proof that the text leaves open, at the sentence of that number, which began it.
-fn add_left_open(
+pub(crate) fn add_left_open(
     alloc: Global,
     diags: &mut DiagList,
     opened: Option<u32>,
