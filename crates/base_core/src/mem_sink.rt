@@ -1,7 +1,6 @@
-ghost use Rattle.std.specs.Prelude.{◌≡◌, ◌+◌, ◌≤◌, ◌<◌, [], length, IfOk, Some};
+ghost use Rattle.std.specs.Prelude.{◌≡◌, ◌+◌, ◌^◌, ◌<◌, ◌≤◌, [], length, vec_capacity, IfOk, Some};
 ghost use Rattle.base_core.specs.Faults.{Rose};
 ghost use Rattle.base_core.specs.Sink.{TakesFrom};
-ghost use Rattle.base_core.specs.MemSink.{sink_bytes, sink_room, sink_fails, sink_faults};
 
 use crate::{NoMem, NumberList, Put, Sink};
 use std::alloc::Global;
@@ -14,13 +13,18 @@ pub struct MemSink {
     fails: NumberList,
     calls: u32,
     faults: u64,
+    ghost reserved: { room ≤ vec_capacity bytes },
 }
 
 impl MemSink {
+    ghost use Rattle.base_core.specs.MemSink.{sink_bytes, sink_room, sink_fails, sink_calls, sink_faults, is_listed};
+
     /// Room for so many bytes. The sink fails at the listed calls, numbered from 1, and when the
     /// room is full.
     pub fn new(alloc: Global, room: usize, fails: NumberList) -> Result<MemSink, NoMem>
-        ensures { IfOk result (λ s. (sink_bytes s ≡ []) × (sink_room s ≡ room) × (sink_fails s ≡ fails) × (sink_faults s ≡ 0)) }
+        ensures empty { IfOk result (λ s. (sink_bytes s ≡ []) × (sink_calls s ≡ 0) × (sink_faults s ≡ 0)) }
+        ensures room { IfOk result (λ s. sink_room s ≡ room) }
+        ensures fails { IfOk result (λ s. sink_fails s ≡ fails) }
     {
         let bytes = Vec::with_capacity(alloc, room)?;
         Ok(MemSink {
@@ -46,31 +50,43 @@ impl MemSink {
         self.faults
     }
 
-    fn fail(&mut self) -> Put
-        ensures failed { result ≡ Put.Failed }
-        ensures same { sink_bytes self.new ≡ sink_bytes self.old }
-        ensures risen { Rose (sink_faults self.old) (sink_faults self.new) }
-        ensures later { sink_faults self.old ≤ sink_faults self.new }
+    fn is_listed(&self) -> bool
+        ensures { result ≡ is_listed (sink_calls self.now) (sink_fails self.now) }
     {
-        self.faults = self.faults.saturating_add(1);
-        Put::Failed
+        self.fails.as_slice().iter().any(|call| *call == self.calls)
     }
 }
 
 impl Sink for MemSink {
+    ghost use Rattle.base_core.specs.MemSink.{sink_bytes, sink_faults, Puts};
+
     ghost written = { λ s. Some (sink_bytes s) };
 
     ghost faults = { λ s. sink_faults s };
 
-    fn put(&mut self, piece: &[u8]) -> Put {
+    fn put(&mut self, piece: &[u8]) -> Put
+        requires { 0 < length piece.now }
+        ensures told { TakesFrom result piece.now (Some (sink_bytes self.old)) (Some (sink_bytes self.new)) }
+        ensures later { sink_faults self.old ≤ sink_faults self.new }
+        ensures failed { result ≡ Put.Failed → Rose (sink_faults self.old) (sink_faults self.new) }
+
+        // It fails exactly at a listed call and where the room is full, and else takes all that fits.
+        ensures exact { Puts result (length piece.now) self.old self.new }
+    {
         self.calls = self.calls.saturating_add(1);
-        if self.fails.as_slice().contains(&self.calls) {
-            return self.fail();
+        let room = self.room.saturating_sub(self.bytes.len());
+        if room == 0 {
+            self.faults = self.faults.saturating_add(1);
+            return Put::Failed;
         }
-        let taken = piece.len().min(self.room.saturating_sub(self.bytes.len()));
-        if taken == 0 || self.bytes.extend_from_slice(&piece[..taken]).is_err() {
-            return self.fail();
+        if self.is_listed() {
+            self.faults = self.faults.saturating_add(1);
+            return Put::Failed;
         }
-        Put::Took(taken)
+        let taken = piece.len().min(room);
+        match self.bytes.extend_from_slice(&piece[..taken]) {
+            Ok(()) => Put::Took(taken),
+            Err(_) => unreachable!(),
+        }
     }
 }

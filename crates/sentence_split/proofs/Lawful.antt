@@ -42,7 +42,7 @@ blank_gap b rest e = record {
 }
 
 -- a first part of a text, and what follows it
-split_at : (text front tail : List ℕ) (n : ℕ) → text ≡ front ++ tail → n ≡ length text - length tail → (take n text ≡ front) × (drop n text ≡ tail)
+pub split_at : (text front tail : List ℕ) (n : ℕ) → text ≡ front ++ tail → n ≡ length text - length tail → (take n text ≡ front) × (drop n text ≡ tail)
 split_at text front tail n e is =
     let long : n ≡ length front = omega (arith, is, ap length e, length-append front tail) in
     (grind (arith, common_steps), grind (arith, common_steps))

@@ -4,3 +4,4 @@ pub mod Scanned
 pub mod Passes
 pub mod Lawful
 pub mod Cuts
+pub mod Unique

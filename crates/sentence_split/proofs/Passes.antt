@@ -112,7 +112,7 @@ pub ends : (text rest : List ℕ) → sentence_end text ≡ Some rest → Ends t
 ends text rest h =
     sound at_period Ends period_ends (λ inside tail rest none. add_comment inside tail rest) (λ bytes tail rest none. add_quotation bytes tail rest) (λ b tail rest none. add_byte b tail rest) Item 0 text rest h
 
-stopped_at : (text other : List ℕ) → Ends text other → Stopped text other
+pub stopped_at : (text other : List ℕ) → Ends text other → Stopped text other
 stopped_at text other e = subst (λ t. Stopped t other) (sym e.spelled) (stops e.stretch other e.fits e.ended)
 
 pub ends_first : (text rest : List ℕ) → sentence_end text ≡ Some rest → EndsFirst text rest

@@ -1,4 +1,5 @@
-ghost use Rattle.std.specs.Prelude.{◌≡◌, ◌^◌, ◌<◌, length, All, IfOk};
+ghost use Rattle.std.specs.Prelude.{◌≡◌, ℕ, List, ◌^◌, ◌<◌, length, All, IfOk};
+ghost use Rattle.sentence_split.specs.declared.spans.Span.{Span};
 ghost use Rattle.sentence_split.specs.Sentences.{sentences};
 ghost use Rattle.sentence_split.specs.Split.{IsSplit};
 ghost use Rattle.sentence_split.specs.Within.{IsSpanOf};
@@ -34,3 +35,9 @@ pub fn split(alloc: Global, text: &str) -> Result<SpanList, NoMem>
     }
     Ok(spans)
 }
+
+/// A law: each text has one split, and the function `sentences` gives it. It does nothing.
+pub fn law_of_splits()
+    ensures splits { (text : List ℕ) → IsSplit (length text) text (sentences 0 0 text) }
+    ensures one { (text : List ℕ) (spans : List Span) → IsSplit (length text) text spans → spans ≡ sentences 0 0 text }
+{}
