@@ -1,5 +1,6 @@
 //! What no clause says: the worked examples, over all crates below.
 
+mod documents;
 mod ground;
 mod provers;
 mod rows;

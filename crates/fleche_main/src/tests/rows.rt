@@ -5,12 +5,12 @@ use std::marker::Brand;
 use std::sync::ledger::Blank;
 use std::test::Fail;
 
-/// Runs words over one file `a.v`, and gives the status and what was written.
-fn outcome(
+/// Runs words over one file `a.v` and a sink, and gives the status and what was written.
+fn outcome_over(
     alloc: Global,
     words: &[&str],
     content: Option<&[u8]>,
-    room: usize,
+    mut out: MemSink,
 ) -> Result<(u8, Vec<u8>), NoMem> {
     let mut all = Vec::new(alloc);
     for word in words {
@@ -26,9 +26,26 @@ fn outcome(
         content,
     })?;
     let mut files = MemFiles::new(listed);
-    let mut out = MemSink::new(alloc, room, NumberList::new(alloc))?;
     let status = counted::<Brand, _, _>(alloc, all.as_slice(), &mut out, &mut files, Blank::new(1));
     Ok((status, out.written().to_vec(alloc)?))
+}
+
+fn outcome(
+    alloc: Global,
+    words: &[&str],
+    content: Option<&[u8]>,
+    room: usize,
+) -> Result<(u8, Vec<u8>), NoMem> {
+    let out = MemSink::new(alloc, room, NumberList::new(alloc))?;
+    outcome_over(alloc, words, content, out)
+}
+
+/// What is written of one axiom to a sink that fails at one call.
+fn outcome_of_fault(alloc: Global, call: u32) -> Result<(u8, Vec<u8>), NoMem> {
+    let mut fails = NumberList::new(alloc);
+    fails.push(call)?;
+    let out = MemSink::new(alloc, 1000, fails)?;
+    outcome_over(alloc, &["check", "a.v"], Some(b"Axiom A : Prop."), out)
 }
 
 #[test]
@@ -107,5 +124,13 @@ fn a_full_sink_has_a_first_part(rt: HostRuntime) -> Result<(), Fail> {
         assert_eq!(rt; got.0, 5, "at {room}");
         assert_eq!(rt; got.1.as_slice(), &report[..room], "at {room}");
     }
+    Ok(())
+}
+
+#[test]
+fn a_sink_that_fails_has_nothing(rt: HostRuntime) -> Result<(), Fail> {
+    let got = outcome_of_fault(rt.alloc(), 1)?;
+    assert_eq!(rt; got.0, 5);
+    assert_eq!(rt; got.1.len(), 0);
     Ok(())
 }

@@ -1,0 +1,54 @@
+ghost use Rattle.std.specs.Prelude.{◌≡◌, ◌<◌};
+
+use base_core::{NoMem, Steps};
+use cic_prover::CicProver;
+use doc_check::DocCheck;
+use std::alloc::Global;
+use std::marker::Brand;
+use std::sync::ledger::{Blank, Ledger};
+use std::test::Fail;
+
+/// Finishes up to so many sentences of a text. Gives how many are left, and once none is, how much
+/// is told of the text.
+fn finished<C: Ledger>(
+    alloc: Global,
+    text: &str,
+    count: u32,
+    blank: Blank,
+) -> Result<(usize, Option<usize>), NoMem>
+    requires name { blank.name ≡ C.name }
+    requires parts { blank.parts ≡ C.parts }
+    requires some { 0 < C.parts }
+{
+    let mut steps: Steps<C> = Steps::new(blank);
+    let prover = CicProver::new();
+    let mut document = match DocCheck::new(alloc, text, &prover, &mut steps) {
+        Ok(document) => document,
+        Err(_) => return Err(NoMem),
+    };
+    for _ in 0..count {
+        if !document.is_ended() {
+            document.advance(alloc, &prover, &mut steps)?;
+        }
+    }
+    if !document.is_ended() {
+        return Ok((document.left(), None));
+    }
+    let diags = document.diags(alloc, &prover)?;
+    Ok((0, Some(diags.as_slice().len())))
+}
+
+#[test]
+fn a_document_is_finished_sentence_by_sentence(rt: HostRuntime) -> Result<(), Fail> {
+    let rows = [
+        ("", 0, (0, Some(0))),
+        ("Axiom A : Prop. - Axiom A : Set.", 0, (3, None)),
+        ("Axiom A : Prop. - Axiom A : Set.", 2, (1, None)),
+        ("Axiom A : Prop. - Axiom A : Set.", 3, (0, Some(2))),
+    ];
+    for (text, count, expected) in rows {
+        let got = finished::<Brand>(rt.alloc(), text, count, Blank::new(1))?;
+        assert_eq!(rt; got, expected, "at {count}");
+    }
+    Ok(())
+}
