@@ -1,0 +1,6 @@
+pub mod Closing
+pub mod Runs
+pub mod Lexemes
+pub mod Lawful
+pub mod Passing
+pub mod Sentence

@@ -1,0 +1,5 @@
+pub mod Tokens
+pub mod Characters
+pub mod Lexemes
+pub mod Pieces
+pub mod Scan
