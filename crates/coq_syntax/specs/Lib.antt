@@ -3,3 +3,7 @@ pub mod Characters
 pub mod Lexemes
 pub mod Pieces
 pub mod Scan
+pub mod Trees
+pub mod TreeCode
+pub mod Nodes
+pub mod NodeSizes

@@ -1,4 +1,4 @@
-//! The tokens of a sentence.
+//! The tokens of a sentence, and the trees of terms, commands and proof moves with their grammar.
 #![tactic(auto)]
 
 mod characters;
@@ -9,6 +9,10 @@ mod rooms;
 mod tests;
 mod token;
 mod tokenizing;
+mod tree;
+mod words;
 
 pub use token::{Token, TokenKind, TokenList};
 pub use tokenizing::tokens;
+pub use tree::{Annotation, Argument, Binders, Group, Node, SurfaceTerm};
+pub use words::{BoundName, TokenPlace, Word};
