@@ -7,3 +7,8 @@ pub mod Trees
 pub mod TreeCode
 pub mod Nodes
 pub mod NodeSizes
+pub mod Spelled
+pub mod Grammar
+pub mod Faults
+pub mod Commands
+pub mod Moves

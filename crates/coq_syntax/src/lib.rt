@@ -2,7 +2,9 @@
 #![tactic(auto)]
 
 mod characters;
+mod command;
 mod comments;
+mod moves;
 mod pieces;
 mod rooms;
 #[cfg(test)]
@@ -12,6 +14,8 @@ mod tokenizing;
 mod tree;
 mod words;
 
+pub use command::{AssumptionWord, Command, Constructor, StatementWord};
+pub use moves::{Direction, MoveTree, Pattern, PatternCase};
 pub use token::{Token, TokenKind, TokenList};
 pub use tokenizing::tokens;
 pub use tree::{Annotation, Argument, Binders, Group, Node, SurfaceTerm};

@@ -42,10 +42,7 @@ const CASES: [(&str, &str); 14] = [
     ("", "0"),
     ("_x'", "identifier _x' 0 3|3"),
     ("_", "wildcard _ 0 1|1"),
-    (
-        "x1 1x",
-        "identifier x1 0 2|number 1 3 4|identifier x 4 5|5",
-    ),
+    ("x1 1x", "identifier x1 0 2|number 1 3 4|identifier x 4 5|5"),
     (
         "Type@{12}",
         "reserved Type 0 4|symbol @ 4 5|symbol { 5 6|number 12 6 8|symbol } 8 9|9",
