@@ -1,11 +1,10 @@
 -- Where there is no room, no comment is closed.
-use Rattle.std.proofs.Common.{◌≡◌, ℕ, ◌+◌, ◌-◌, ◌<◌, ◌≤◌, Bool, true, false, cond, eqb, Option, None, Some, List, [], ◌∷◌, length, zero, suc, refl, sym, ◌∙◌, ap, subst, arith, ◌^◌, get_or, take, drop, length-drop, drop-cons, nat_lt, inl, inr}
+use Rattle.std.proofs.Common.{◌≡◌, ℕ, ◌+◌, ◌-◌, ◌<◌, ◌≤◌, Bool, true, false, cond, eqb, None, Some, List, [], ◌∷◌, length, zero, suc, refl, sym, ◌∙◌, ap, arith, ◌^◌, get_or, take, drop, length-drop, drop-cons, nat_lt, inl, inr}
 use Rattle.std.proofs.lemmas.Bool.Decides.{nat_tests}
 use Rattle.std.proofs.lemmas.Bool.{cases_eq}
 use Rattle.std.proofs.lemmas.Grind.{get_or-set_at, common_steps}
 use Rattle.std.proofs.lemmas.List.{get_or-set_other}
 use Rattle.std.proofs.Math.ListN.{set}
-use Rattle.sentence_split.specs.declared.scan.Mode.{Mode}
 use Rattle.sentence_split.specs.declared.scan.Mode.TheVariants.{Item, Quoted, Second}
 use Rattle.sentence_split.specs.Items.{opens, closes}
 use Rattle.sentence_split.specs.Scan.{state, item_step, step, scan, comment_end}

@@ -1,12 +1,11 @@
 -- What the code finds at a character is a blank, a comment or a token.
-use Rattle.std.proofs.Common.{◌≡◌, ℕ, ◌+◌, ◌-◌, ◌<◌, ◌≤◌, Bool, true, false, cond, eqb, nat_lt, not, Option, None, Some, List, [], ◌∷◌, ◌++◌, length, take, drop, get_or, zero, suc, refl, sym, ◌∙◌, ap, subst, arith, append-nil, length-append, encode_utf8, encode_utf8_all}
+use Rattle.std.proofs.Common.{◌≡◌, ℕ, ◌+◌, ◌-◌, ◌<◌, ◌≤◌, Bool, true, false, cond, eqb, nat_lt, not, Option, None, Some, List, [], ◌∷◌, ◌++◌, length, take, drop, get_or, suc, refl, sym, ◌∙◌, ap, subst, arith, append-nil, length-append, encode_utf8, encode_utf8_all}
 use Rattle.std.specs.List.{prefix_len}
 use Rattle.std.proofs.lemmas.Bool.Decides.{nat_tests}
 use Rattle.std.proofs.lemmas.Grind.{common_steps}
-use Rattle.sentence_split.specs.Items.{Items, spells, AreItems, opens, is_blank}
+use Rattle.sentence_split.specs.Items.{spells, AreItems, opens, is_blank}
 use Rattle.sentence_split.specs.Scan.{comment_end}
 use Rattle.sentence_split.proofs.Passes.{spells-append, comment_found, none_some, commented, Commented}
-use Rattle.coq_syntax.specs.declared.token.TokenKind.{TokenKind}
 use Rattle.coq_syntax.specs.declared.pieces.Shape.{Shape}
 use Rattle.coq_syntax.specs.declared.pieces.Shape.TheVariants.{Word, Digits, Sign, Literal, Single}
 use Rattle.coq_syntax.specs.declared.pieces.Piece.{Piece}

@@ -1,10 +1,9 @@
 -- Runs of characters, and the tokens that they are.
-use Rattle.std.proofs.Common.{◌≡◌, ℕ, ◌+◌, ◌<◌, ◌≤◌, Bool, true, false, cond, eqb, not, List, [], ◌∷◌, ◌++◌, length, take, drop, zero, suc, refl, sym, ◌∙◌, ap, subst, arith, encode_utf8_all}
+use Rattle.std.proofs.Common.{◌≡◌, ℕ, ◌+◌, ◌<◌, ◌≤◌, Bool, true, false, cond, eqb, not, List, [], ◌∷◌, ◌++◌, length, take, drop, suc, refl, sym, ap, subst, arith, encode_utf8_all}
 use Rattle.std.specs.List.{prefix_len, AllPass}
 use Rattle.std.proofs.lemmas.Bool.Decides.{nat_tests}
 use Rattle.std.proofs.lemmas.List.Elements.{All-nil, All-cons}
 use Rattle.sentence_split.specs.Items.{HasNoQuote}
-use Rattle.coq_syntax.specs.declared.token.TokenKind.{TokenKind}
 use Rattle.coq_syntax.specs.declared.token.TokenKind.TheVariants.{Identifier, Wildcard, Reserved}
 use Rattle.coq_syntax.specs.declared.pieces.Shape.TheVariants.{Word}
 use Rattle.coq_syntax.specs.Characters.{is_wildcard, is_reserved}

@@ -4,3 +4,6 @@ pub mod Lexemes
 pub mod Lawful
 pub mod Passing
 pub mod Sentence
+pub mod Classes
+pub mod Heads
+pub mod Unique

@@ -3,7 +3,7 @@ use Rattle.std.specs.Prelude.{◌==◌, ℕ, zero, suc, ◌+◌, ◌-◌, ◌*�
 use Rattle.coq_syntax.specs.declared.token.Token.{Token}
 use Rattle.coq_syntax.specs.declared.words.Word.{Word}
 use Rattle.coq_syntax.specs.Trees.{Term, Forall, Fun, Let, Arrow, Or, And, Not, Equal, Apply, Name, PropSort, SetSort, TypeSort, TypeAt, Numeral, Parenthesized, Binders, Names, Groups, GroupList, NoGroup, Group, Annotation, Untyped, Typed, Arguments, NoArgument, Positional, Given}
-use Rattle.coq_syntax.specs.Spelled.{reserved, symbol, number, spells, binders, groups, annotation, arguments}
+use Rattle.coq_syntax.specs.Spelled.{reserved, symbol, number, spells, groups, arguments}
 use Rattle.coq_syntax.specs.Grammar.{level}
 
 -- a refusal by its number, and the tokens from its place on

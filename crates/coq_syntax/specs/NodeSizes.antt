@@ -1,5 +1,5 @@
 -- Each part of a node has fewer nodes than the node.
-use Rattle.std.specs.Prelude.{ℕ, ◌≤◌, max, List, [], ◌∷◌}
+use Rattle.std.specs.Prelude.{◌≤◌, max, List, [], ◌∷◌}
 use Rattle.std.proofs.Common.{arith}
 use denote.Param.Weighed.{most}
 use Rattle.coq_syntax.specs.declared.tree.Node.{Node}

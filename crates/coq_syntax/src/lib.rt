@@ -4,6 +4,7 @@
 mod characters;
 mod command;
 mod comments;
+mod laws;
 mod moves;
 mod pieces;
 mod rooms;
@@ -15,6 +16,7 @@ mod tree;
 mod words;
 
 pub use command::{AssumptionWord, Command, Constructor, StatementWord};
+pub use laws::law_of_tokens;
 pub use moves::{Direction, MoveTree, Pattern, PatternCase};
 pub use token::{Token, TokenKind, TokenList};
 pub use tokenizing::tokens;

@@ -1,6 +1,6 @@
-use Rattle.std.proofs.Common.{arith, length-drop, ap, ◌∙◌, sym}
+use Rattle.std.proofs.Common.{arith, ◌∙◌}
 use Rattle.std.proofs.lemmas.List.{length-set}
-use Rattle.coq_syntax.proofs.Closing.{few, passed, marked, rooms_bound, shown_rest}
+use Rattle.coq_syntax.proofs.Closing.{passed, marked, rooms_bound, shown_rest}
 use Rattle.coq_syntax.proofs.rooms.closing_marks.Goals as goal
 
 pub rooms_before-rooms-requires : goal.rooms_before-rooms-requires

@@ -1,4 +1,4 @@
-use Rattle.std.proofs.Common.{◌≡◌, ℕ, ◌+◌, ◌<◌, ◌≤◌, Option, None, true, false, drop, length, get_or}
+use Rattle.std.proofs.Common.{◌≡◌, ℕ, ◌+◌, ◌<◌, ◌≤◌, None, true, false, drop, length, get_or}
 use Rattle.sentence_split.specs.Scan.{comment_end}
 use Rattle.coq_syntax.specs.Scan.{rooms_of}
 use Rattle.coq_syntax.proofs.rooms.closing_marks.Given as goal

@@ -1,4 +1,4 @@
-use Rattle.std.proofs.Common.{◌≡◌, ℕ, List, ◌+◌, ◌-◌, ◌<◌, ◌≤◌, ◌^◌, length, take, drop, get_or, encode_utf8_all, arith, ap, sym, ◌∙◌, subst, refl, length-drop}
+use Rattle.std.proofs.Common.{length, encode_utf8_all, arith, ap, ◌∙◌, refl, length-drop}
 use Rattle.std.proofs.lemmas.Str.{length-le-encodes}
 use Rattle.coq_syntax.specs.Scan.{kind_of}
 use Rattle.coq_syntax.proofs.Passing.{gap_passed, lexeme_passed, ended, shown_rest, shown_part, part_fits, no_comment}
