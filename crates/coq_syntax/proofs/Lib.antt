@@ -7,3 +7,4 @@ pub mod Sentence
 pub mod Classes
 pub mod Heads
 pub mod Unique
+pub mod Examples

@@ -12,3 +12,4 @@ pub mod Grammar
 pub mod Faults
 pub mod Commands
 pub mod Moves
+pub mod Examples

@@ -16,7 +16,7 @@ mod tree;
 mod words;
 
 pub use command::{AssumptionWord, Command, Constructor, StatementWord};
-pub use laws::law_of_tokens;
+pub use laws::{law_of_examples, law_of_tokens};
 pub use moves::{Direction, MoveTree, Pattern, PatternCase};
 pub use token::{Token, TokenKind, TokenList};
 pub use tokenizing::tokens;
