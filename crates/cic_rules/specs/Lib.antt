@@ -1,0 +1,11 @@
+pub mod Answers
+pub mod Contexts
+pub mod Environments
+pub mod Names
+pub mod Fuel
+pub mod Runs
+pub mod Rows
+pub mod Families
+pub mod Reduce
+pub mod Convert
+pub mod Infer
