@@ -64,6 +64,14 @@ place_in env name = look (slice_cmp nat_cmp) (numbered 0 env) name
 abbrev pub IsNew : List Slot → List ℕ → Type 0
 IsNew env name = place_in env name ≡ None
 
+abbrev is_there : Option ℕ → Bool
+is_there None = false
+is_there (Some _) = true
+
+-- a global has this name
+abbrev pub is_taken : List Slot → List ℕ → Bool
+is_taken env name = is_there (place_in env name)
+
 -- a global that is no inductive type
 abbrev pub own_slot : Entry → Slot
 own_slot e = record { entry = e; decl = None }

@@ -9,3 +9,6 @@ pub mod Families
 pub mod Reduce
 pub mod Convert
 pub mod Infer
+pub mod Eliminators
+pub mod Inductive
+pub mod Declare
