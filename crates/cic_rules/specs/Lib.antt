@@ -12,3 +12,6 @@ pub mod Infer
 pub mod Eliminators
 pub mod Inductive
 pub mod Declare
+pub mod Derive
+pub mod WellFormed
+pub mod Grounded
