@@ -7,12 +7,13 @@ use Rattle.std.specs.Ordering.{nat_cmp}
 use Rattle.core_term.specs.Tree.{Tree}
 use Rattle.shared_map.specs.Entries.{look, put, IsInOrder}
 use Rattle.shared_map.proofs.EntriesLaws.{look-put, look-last, in_order-put}
+use Rattle.cic_rules.specs.declared.decls.InductiveDecl.{InductiveDecl}
 use Rattle.cic_rules.specs.declared.entries.Entry.{Entry}
 use Rattle.cic_rules.specs.declared.entries.EntryKind.{EntryKind}
 use Rattle.cic_rules.specs.declared.entries.EntryKind.TheVariants.{Assumed, Admitted, Defined, Inductive, Constructor, Eliminator}
 use Rattle.cic_rules.specs.declared.env.Slot.{Slot}
 use Rattle.cic_rules.specs.Names.{rank_of}
-use Rattle.cic_rules.specs.Environments.{numbered, place_in, own_slot, globals_of_all, terms_of, AreAmong, Covers, IsOwn, IsNew, IsSlotAt, AreSlots, IsEnvironment, IsIndexed, MayEnter}
+use Rattle.cic_rules.specs.Environments.{numbered, place_in, own_slot, slotted, globals_of_all, terms_of, AreAmong, Covers, IsOwn, IsNew, IsSlotAt, AreSlots, IsEnvironment, IsIndexed, MayEnter}
 use Rattle.cic_rules.proofs.IndexLaws.{insert_rank}
 
 numbered-last : (n : ℕ) (env : List Slot) (s : Slot) → numbered n (env ++ (s ∷ [])) ≡ numbered n env ++ ((s.entry.name, n + length env) ∷ [])
@@ -62,3 +63,8 @@ covers_own place (Eliminator of sort) terms used own h = absurd own
 -- an entry that may be entered is a global at the next place
 pub own_slot_is : (env : List Slot) (e : Entry) → MayEnter env e → IsSlotAt (length env) (own_slot e)
 own_slot_is env e h = record { entry = h.entry; covers = covers_own (length env) e.kind (terms_of e) e.used h.own h.used }
+
+-- as many globals as entries
+pub length_slotted : (d : Option InductiveDecl) (entries : List Entry) → length (slotted d entries) ≡ length entries
+length_slotted d [] = refl
+length_slotted d (e ∷ es) = ap suc (length_slotted None es)

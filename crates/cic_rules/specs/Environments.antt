@@ -77,9 +77,9 @@ abbrev pub own_slot : Entry → Slot
 own_slot e = record { entry = e; decl = None }
 
 -- the names are not taken, and no two of them are the same
-abbrev pub AreNew : List Slot → List Entry → Type 0
+abbrev pub AreNew : List Slot → List Slot → Type 0
 AreNew env [] = Unit {0}
-AreNew env (e ∷ es) = IsNew env e.name × AreNew (env ++ (own_slot e ∷ [])) es
+AreNew env (s ∷ ss) = IsNew env s.entry.name × AreNew (env ++ (s ∷ [])) ss
 
 -- the places of the globals in a term, as often as they stand there
 abbrev pub globals_of : Tree → List ℕ

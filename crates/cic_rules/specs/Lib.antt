@@ -15,3 +15,5 @@ pub mod Declare
 pub mod Derive
 pub mod WellFormed
 pub mod Grounded
+pub mod EnterFamily
+pub mod Judges

@@ -1,11 +1,12 @@
-ghost use Rattle.std.specs.Prelude.{◌≡◌, ◌+◌, ◌^◌, ◌≤◌, ◌<◌, [], ◌∷◌, ◌++◌, length, slice_get, IfOk};
+ghost use Rattle.std.specs.Prelude.{◌≡◌, ◌+◌, ◌^◌, ◌≤◌, ◌<◌, [], ◌∷◌, ◌++◌, length, slice_get, Some, IfOk};
 ghost use Rattle.std.specs.Option.{option_copied};
 ghost use Rattle.std.specs.Cmp.Lexicographic.{slice_cmp};
 ghost use Rattle.std.specs.Ordering.{nat_cmp};
 ghost use Rattle.shared_map.specs.Entries.{IsInOrder};
 ghost use Rattle.cic_rules.specs.Answers.{Gives};
 ghost use Rattle.cic_rules.specs.Names.{rank_of, stands_before};
-ghost use Rattle.cic_rules.specs.Environments.{entry_at, decl_at, place_in, entered, IsEnvironment, IsNew, IsSlotAt, MayEnter};
+ghost use Rattle.cic_rules.specs.Environments.{entry_at, decl_at, place_in, entered, all_entered, slotted, IsEnvironment, IsNew, AreNew, IsSlotAt, AreSlots, MayEnter};
+ghost use Rattle.cic_rules.specs.EnterFamily.{MayEnterFamily};
 
 use crate::decls::InductiveDecl;
 use crate::entries::{Entry, EntryList};
@@ -131,6 +132,50 @@ impl GlobalEnv {
             Ok(env) => Ok(env),
             Err(NoMem) => Err(Stop::NoMem),
         }
+    }
+
+    /// The environment with an inductive type, its constructors and its eliminators, unless there
+    /// would be more than 2^31 globals.
+    pub fn with_inductive(
+        &self,
+        alloc: Global,
+        d: InductiveDecl,
+        entries: EntryList,
+    ) -> Result<GlobalEnv, Stop>
+        requires { MayEnterFamily self.now d entries }
+        ensures { Gives result (all_entered self.now (slotted (Some d) entries)) }
+    {
+        let entries = entries.into_vec();
+        if entries.len() > LEN_LIMIT - self.slots.len() {
+            return Err(Stop::Out(Limit::SizeLimit));
+        }
+        match self.with_slots(alloc, Some(d), entries) {
+            Ok(env) => Ok(env),
+            Err(NoMem) => Err(Stop::NoMem),
+        }
+    }
+
+    fn with_slots(
+        &self,
+        alloc: Global,
+        decl: Option<InductiveDecl>,
+        entries: Vec<Entry>,
+    ) -> Result<GlobalEnv, NoMem>
+        requires room { length self.now + length entries.items ≤ 2 ^ 31 }
+        requires new { AreNew self.now (slotted decl entries.items) }
+        requires slots { AreSlots (length self.now) (slotted decl entries.items) }
+        ensures { IfOk result (λ e. e ≡ self.now ++ slotted decl entries.items) }
+    {
+        let mut env = self.share()?;
+        let mut decl = decl;
+        for entry in entries {
+            let slot = Slot {
+                entry,
+                decl: decl.take(),
+            };
+            env = env.with_slot(alloc, slot)?;
+        }
+        Ok(env)
     }
 
     fn with_slot(&self, alloc: Global, slot: Slot) -> Result<GlobalEnv, NoMem>

@@ -1,4 +1,5 @@
-//! The written rules of the kernel.
+//! The written rules of the kernel: contexts, environments, reduction, conversion, inference and
+//! declarations, as definitions on plain trees that the crates above are proved to meet.
 #![tactic(auto)]
 
 mod context;
@@ -13,4 +14,4 @@ pub use decls::{ContextList, Ctor, CtorList, Decl, InductiveDecl};
 pub use entries::{Entry, EntryKind, EntryList};
 pub use env::GlobalEnv;
 pub use fuel::Fuel;
-pub use judge::{Answer, Inferred, Mode};
+pub use judge::{Answer, Declares, Inferred, Judge, Mode};
