@@ -1,3 +1,5 @@
 pub mod ContextLaws
+pub mod FirstState
 pub mod IndexLaws
 pub mod PlaceLaws
+pub mod Samples
