@@ -17,3 +17,4 @@ pub mod WellFormed
 pub mod Grounded
 pub mod EnterFamily
 pub mod Judges
+pub mod Laws

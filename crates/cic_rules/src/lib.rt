@@ -8,6 +8,7 @@ mod entries;
 mod env;
 mod fuel;
 mod judge;
+mod laws;
 
 pub use context::{Context, Hyp};
 pub use decls::{ContextList, Ctor, CtorList, Decl, InductiveDecl};
@@ -15,3 +16,4 @@ pub use entries::{Entry, EntryKind, EntryList};
 pub use env::GlobalEnv;
 pub use fuel::Fuel;
 pub use judge::{Answer, Declares, Inferred, Judge, Mode};
+pub use laws::{law_of_axioms, law_of_names};
