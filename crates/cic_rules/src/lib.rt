@@ -17,3 +17,6 @@ pub use env::GlobalEnv;
 pub use fuel::Fuel;
 pub use judge::{Answer, Declares, Inferred, Judge, Mode};
 pub use laws::{law_of_axioms, law_of_names};
+
+#[cfg(test)]
+mod tests;
