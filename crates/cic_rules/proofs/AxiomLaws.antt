@@ -3,7 +3,7 @@ use Rattle.std.proofs.Common.{ℕ, zero, suc, ◌<◌, List, [], ◌∷◌, ◌+
 use Rattle.cic_rules.specs.declared.env.Slot.{Slot}
 use Rattle.cic_rules.specs.Environments.{has, AreBefore, AreBehind, IsAscending}
 use Rattle.cic_rules.specs.Infer.{union}
-use Rattle.cic_rules.specs.Grounded.{used_at, reached, assumptions, is_assumption, axioms}
+use Rattle.cic_rules.specs.Grounded.{used_at, reached, assumptions, is_assumption}
 use Rattle.cic_rules.specs.Laws.{AxiomsAscend}
 
 behind-last : (q p : ℕ) (ps : List ℕ) → AreBehind q ps → q < p → AreBehind q (ps ++ (p ∷ []))

@@ -1,8 +1,8 @@
 -- What another name at a place leaves as it is.
-use Rattle.std.proofs.Common.{◌≡◌, ℕ, zero, suc, ◌+◌, ◌<◌, List, [], ◌∷◌, length, Option, Some, None, refl, sym, ap, ◌∙◌, arith}
+use Rattle.std.proofs.Common.{◌≡◌, ℕ, zero, suc, List, [], ◌∷◌, length, Some, refl, ap, arith}
 use Rattle.std.specs.Prelude.{slice_get, slice_set}
 use Rattle.cic_rules.specs.declared.context.Hyp.{Hyp}
-use Rattle.cic_rules.specs.Contexts.{renamed, IsContext, IsHypAt, AreHyps}
+use Rattle.cic_rules.specs.Contexts.{renamed, IsContext, AreHyps}
 
 length-renamed : (ctx : List Hyp) (i : ℕ) (name : List ℕ) → length (renamed ctx i name) ≡ length ctx
 length-renamed [] i name = refl

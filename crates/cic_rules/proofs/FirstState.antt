@@ -1,21 +1,21 @@
 -- The ten sentences of the first state as declarations, and what they give, proved by computation.
-use Rattle.std.specs.Prelude.{◌≡◌, ℕ, List, [], ◌∷◌, length, Bool, true, false, Option, Some, None, Result, Ok, Err, refl}
+use Rattle.std.specs.Prelude.{◌≡◌, ℕ, List, [], ◌∷◌, length, Bool, true, false, Some, Result, Ok, Err, refl}
 use Rattle.base_core.specs.declared.refusals.Stop.{Stop}
 use Rattle.core_term.specs.declared.sorts.Sort.TheVariants.{PropSort, SetSort, TypeSort}
-use Rattle.core_term.specs.Tree.{Tree, Variable, Universe, Const, Product, Lambda, Let, Apply}
+use Rattle.core_term.specs.Tree.{Tree, Variable, Universe, Const, Product, Lambda, Apply}
 use Rattle.cic_rules.specs.declared.context.Hyp.{Hyp}
 use Rattle.cic_rules.specs.declared.decls.Decl.{Decl}
-use Rattle.cic_rules.specs.declared.decls.Decl.TheVariants.{Assume, Define, Admit, Induct}
+use Rattle.cic_rules.specs.declared.decls.Decl.TheVariants.{Define, Induct}
 use Rattle.cic_rules.specs.declared.decls.Ctor.{Ctor}
 use Rattle.cic_rules.specs.declared.env.Slot.{Slot}
-use Rattle.cic_rules.specs.declared.judge.Mode.TheVariants.{Same, Below}
+use Rattle.cic_rules.specs.declared.judge.Mode.TheVariants.{Same}
 use Rattle.cic_rules.specs.Contexts.{plain_hyp}
 use Rattle.cic_rules.specs.Environments.{type_of_global}
-use Rattle.cic_rules.specs.Runs.{Ran, done, refused, then_do, repeat}
+use Rattle.cic_rules.specs.Runs.{Ran, done, then_do, repeat}
 use Rattle.cic_rules.specs.Reduce.{whnf_at}
 use Rattle.cic_rules.specs.Convert.{conv_at, blocker_at}
 use Rattle.cic_rules.specs.Infer.{infer_at}
-use Rattle.cic_rules.specs.Inductive.{row_at, check_inductive_at}
+use Rattle.cic_rules.specs.Inductive.{row_at}
 use Rattle.cic_rules.specs.Declare.{declare_at}
 use Rattle.cic_rules.specs.Rows.{apply_all}
 
@@ -67,20 +67,20 @@ PRELUDE =
     inductive (70 ∷ 97 ∷ 108 ∷ 115 ∷ 101 ∷ []) [] PROP []
     ∷ inductive (84 ∷ 114 ∷ 117 ∷ 101 ∷ []) [] PROP (ctor (73 ∷ []) (Const 4) ∷ [])
     ∷ inductive (97 ∷ 110 ∷ 100 ∷ []) (plain_hyp (65 ∷ []) PROP ∷ plain_hyp (66 ∷ []) PROP ∷ []) PROP
-        (ctor (99 ∷ 111 ∷ 110 ∷ 106 ∷ []) (arrow (Variable 1) (arrow (Variable 1) (apply2 (Const 9) (Variable 3) (Variable 2)))) ∷ [])
+    (ctor (99 ∷ 111 ∷ 110 ∷ 106 ∷ []) (arrow (Variable 1) (arrow (Variable 1) (apply2 (Const 9) (Variable 3) (Variable 2)))) ∷ [])
     ∷ inductive (111 ∷ 114 ∷ []) (plain_hyp (65 ∷ []) PROP ∷ plain_hyp (66 ∷ []) PROP ∷ []) PROP
-        (ctor (111 ∷ 114 ∷ 95 ∷ 105 ∷ 110 ∷ 116 ∷ 114 ∷ 111 ∷ 108 ∷ []) (arrow (Variable 1) (apply2 (Const 14) (Variable 2) (Variable 1)))
-        ∷ ctor (111 ∷ 114 ∷ 95 ∷ 105 ∷ 110 ∷ 116 ∷ 114 ∷ 111 ∷ 114 ∷ []) (arrow (Variable 0) (apply2 (Const 14) (Variable 2) (Variable 1))) ∷ [])
+    (ctor (111 ∷ 114 ∷ 95 ∷ 105 ∷ 110 ∷ 116 ∷ 114 ∷ 111 ∷ 108 ∷ []) (arrow (Variable 1) (apply2 (Const 14) (Variable 2) (Variable 1)))
+    ∷ ctor (111 ∷ 114 ∷ 95 ∷ 105 ∷ 110 ∷ 116 ∷ 114 ∷ 111 ∷ 114 ∷ []) (arrow (Variable 0) (apply2 (Const 14) (Variable 2) (Variable 1))) ∷ [])
     ∷ Define (110 ∷ 111 ∷ 116 ∷ []) (Some (Product (65 ∷ []) PROP PROP)) (Lambda (65 ∷ []) PROP (arrow (Variable 0) (Const 0))) false
     ∷ inductive (101 ∷ 113 ∷ []) (plain_hyp (65 ∷ []) TYPE ∷ plain_hyp (120 ∷ []) (Variable 0) ∷ []) (arrow (Variable 1) PROP)
-        (ctor (101 ∷ 113 ∷ 95 ∷ 114 ∷ 101 ∷ 102 ∷ 108 ∷ []) (Apply (apply2 (Const 19) (Variable 1) (Variable 0)) (Variable 0)) ∷ [])
+    (ctor (101 ∷ 113 ∷ 95 ∷ 114 ∷ 101 ∷ 102 ∷ 108 ∷ []) (Apply (apply2 (Const 19) (Variable 1) (Variable 0)) (Variable 0)) ∷ [])
     ∷ inductive (101 ∷ 120 ∷ []) (plain_hyp (65 ∷ []) TYPE ∷ plain_hyp (80 ∷ []) (arrow (Variable 0) PROP) ∷ []) PROP
-        (ctor (101 ∷ 120 ∷ 95 ∷ 105 ∷ 110 ∷ 116 ∷ 114 ∷ 111 ∷ []) (Product (120 ∷ []) (Variable 1) (arrow (Apply (Variable 1) (Variable 0)) (apply2 (Const 24) (Variable 3) (Variable 2)))) ∷ [])
+    (ctor (101 ∷ 120 ∷ 95 ∷ 105 ∷ 110 ∷ 116 ∷ 114 ∷ 111 ∷ []) (Product (120 ∷ []) (Variable 1) (arrow (Apply (Variable 1) (Variable 0)) (apply2 (Const 24) (Variable 3) (Variable 2)))) ∷ [])
     ∷ inductive (98 ∷ 111 ∷ 111 ∷ 108 ∷ []) [] (Universe SetSort) (ctor (116 ∷ 114 ∷ 117 ∷ 101 ∷ []) (Const 27) ∷ ctor (102 ∷ 97 ∷ 108 ∷ 115 ∷ 101 ∷ []) (Const 27) ∷ [])
     ∷ inductive (110 ∷ 97 ∷ 116 ∷ []) [] (Universe SetSort) (ctor (79 ∷ []) NAT ∷ ctor (83 ∷ []) (arrow NAT NAT) ∷ [])
     ∷ Define (112 ∷ 108 ∷ 117 ∷ 115 ∷ []) (Some (Product (110 ∷ []) NAT (Product (109 ∷ []) NAT NAT)))
-        (Lambda (110 ∷ []) NAT (Lambda (109 ∷ []) NAT
-          (apply_all NAT_REC (Lambda ANY NAT NAT ∷ Variable 0 ∷ Lambda ANY NAT (Lambda (114 ∷ []) NAT (Apply S (Variable 0))) ∷ Variable 1 ∷ [])))) false
+    (Lambda (110 ∷ []) NAT (Lambda (109 ∷ []) NAT
+    (apply_all NAT_REC (Lambda ANY NAT NAT ∷ Variable 0 ∷ Lambda ANY NAT (Lambda (114 ∷ []) NAT (Apply S (Variable 0))) ∷ Variable 1 ∷ [])))) false
     ∷ []
 
 abbrev environment_of : Result (List Slot) Stop → List Slot

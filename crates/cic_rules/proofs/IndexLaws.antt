@@ -1,12 +1,12 @@
 -- A name's rank among names in order, and what is found there.
-use Rattle.std.proofs.Common.{◌≡◌, ℕ, zero, suc, ◌+◌, ◌≤◌, ◌<◌, Bool, true, false, cond, List, [], ◌∷◌, ◌++◌, length, Option, Some, None, refl, sym, ap, ◌∙◌, arith}
+use Rattle.std.proofs.Common.{◌≡◌, ℕ, zero, suc, ◌≤◌, ◌<◌, Bool, true, false, cond, List, [], ◌∷◌, length, Option, Some, None, refl, ap, ◌∙◌, arith}
 use Rattle.std.specs.Prelude.{slice_get, insert}
 use Rattle.std.proofs.lemmas.Bool.{false≢true}
 use Rattle.std.specs.Cmp.{IsTotalOrder}
 use Rattle.std.specs.declared.cmp.Ordering.{Ordering}
 use Rattle.std.specs.declared.cmp.Ordering.TheVariants.{Less, Equal, Greater}
 use Rattle.std.specs.Ordering.{is_eq, match_ordering, ordering_reverse}
-use Rattle.shared_map.specs.Entries.{look, put, IsBelowAll, IsInOrder, PutsOnly}
+use Rattle.shared_map.specs.Entries.{look, put, IsBelowAll, IsInOrder}
 use Rattle.cic_rules.specs.Names.{is_less, stands_before, rank_of}
 
 rank_by : (b : Bool) (n at : ℕ) → n ≤ at → cond b (suc n) zero ≤ suc at

@@ -1,11 +1,11 @@
 -- An environment with one more global.
 use Rattle.std.specs.Ordering.{is_eq}
-use Rattle.std.proofs.Common.{◌≡◌, ℕ, zero, suc, ◌+◌, ◌^◌, ◌≤◌, ◌<◌, cond, List, [], ◌∷◌, ◌++◌, length, Option, Some, None, refl, sym, ap, ◌∙◌, arith, length-append}
+use Rattle.std.proofs.Common.{◌≡◌, ℕ, suc, ◌+◌, ◌^◌, ◌<◌, cond, List, [], ◌∷◌, ◌++◌, length, Option, Some, None, refl, sym, ap, ◌∙◌, arith, length-append}
 use Rattle.std.specs.Prelude.{insert}
 use Rattle.std.specs.Cmp.Lexicographic.{slice_cmp, nat_list_cmp_total}
 use Rattle.std.specs.Ordering.{nat_cmp}
 use Rattle.core_term.specs.Tree.{Tree}
-use Rattle.shared_map.specs.Entries.{look, put, IsInOrder}
+use Rattle.shared_map.specs.Entries.{look}
 use Rattle.shared_map.proofs.EntriesLaws.{look-put, look-last, in_order-put}
 use Rattle.cic_rules.specs.declared.decls.InductiveDecl.{InductiveDecl}
 use Rattle.cic_rules.specs.declared.entries.Entry.{Entry}
@@ -13,7 +13,7 @@ use Rattle.cic_rules.specs.declared.entries.EntryKind.{EntryKind}
 use Rattle.cic_rules.specs.declared.entries.EntryKind.TheVariants.{Assumed, Admitted, Defined, Inductive, Constructor, Eliminator}
 use Rattle.cic_rules.specs.declared.env.Slot.{Slot}
 use Rattle.cic_rules.specs.Names.{rank_of}
-use Rattle.cic_rules.specs.Environments.{numbered, place_in, own_slot, slotted, globals_of_all, terms_of, AreAmong, Covers, IsOwn, IsNew, IsSlotAt, AreSlots, IsEnvironment, IsIndexed, MayEnter}
+use Rattle.cic_rules.specs.Environments.{numbered, place_in, own_slot, slotted, globals_of_all, terms_of, AreAmong, Covers, IsOwn, IsNew, IsSlotAt, AreSlots, IsIndexed, MayEnter}
 use Rattle.cic_rules.proofs.IndexLaws.{insert_rank}
 
 numbered-last : (n : ℕ) (env : List Slot) (s : Slot) → numbered n (env ++ (s ∷ [])) ≡ numbered n env ++ ((s.entry.name, n + length env) ∷ [])

@@ -1,13 +1,13 @@
 -- Worked values of the rules, proved by computation.
-use Rattle.std.specs.Prelude.{◌≡◌, ℕ, List, [], ◌∷◌, Bool, true, false, Option, Some, None, Result, Ok, Err, refl}
-use Rattle.base_core.specs.declared.refusals.Limit.TheVariants.{StepLimit, DepthLimit, SizeLimit}
+use Rattle.std.specs.Prelude.{◌≡◌, ℕ, List, [], ◌∷◌, true, false, refl}
+use Rattle.base_core.specs.declared.refusals.Limit.TheVariants.{StepLimit, DepthLimit}
 use Rattle.core_term.specs.declared.sorts.Sort.TheVariants.{PropSort, SetSort, TypeSort}
 use Rattle.core_term.specs.Tree.{Tree, Variable, Universe, Const, Product, Lambda, Let, Apply}
 use Rattle.cic_rules.specs.declared.entries.EntryKind.TheVariants.{Assumed}
 use Rattle.cic_rules.specs.declared.env.Slot.{Slot}
 use Rattle.cic_rules.specs.declared.judge.Mode.TheVariants.{Same, Below}
 use Rattle.cic_rules.specs.Environments.{own_slot}
-use Rattle.cic_rules.specs.Runs.{Ran, done, out, refused, repeat}
+use Rattle.cic_rules.specs.Runs.{done, out, refused, repeat}
 use Rattle.cic_rules.specs.Reduce.{whnf_at}
 use Rattle.cic_rules.specs.Convert.{conv_at, blocker_at}
 use Rattle.cic_rules.specs.Infer.{infer_at, inferred}

@@ -1,5 +1,5 @@
 -- Declarations: what they are judged by, and the environment that they give.
-use Rattle.std.specs.Prelude.{ℕ, List, [], ◌∷◌, Bool, true, false, Option, Some, None, if◌then◌else◌}
+use Rattle.std.specs.Prelude.{ℕ, List, [], ◌∷◌, Option, Some, None, if◌then◌else◌}
 use Rattle.core_term.specs.Tree.{Tree}
 use Rattle.cic_rules.specs.declared.decls.Decl.{Decl}
 use Rattle.cic_rules.specs.declared.decls.Decl.TheVariants.{Assume, Define, Admit, Induct}
@@ -13,7 +13,7 @@ use Rattle.cic_rules.specs.Environments.{is_taken, entered, all_entered, slotted
 use Rattle.cic_rules.specs.Infer.{union, Sorted, infer_at, sort_of_at, check_at}
 use Rattle.cic_rules.specs.Eliminators.{family_entries}
 use Rattle.cic_rules.specs.Inductive.{Checked, check_inductive_at}
-use Rattle.cic_rules.specs.Runs.{Ran, ended, done, refused, then_do, made}
+use Rattle.cic_rules.specs.Runs.{Ran, ended, refused, then_do, made}
 
 module _ (env : List Slot) where
   -- the entry at the end of the environment

@@ -1,9 +1,9 @@
 -- The types of eliminators, and the entries of an inductive type with its family.
-use Rattle.std.specs.Prelude.{ℕ, zero, suc, ◌+◌, ◌/◌, ◌%◌, ◌==◌, nat_le, nat_lt, nat_eq, List, [], ◌∷◌, ◌++◌, length, Bool, true, false, ◌&&◌, Option, Some, None, if◌then◌else◌}
+use Rattle.std.specs.Prelude.{ℕ, zero, suc, ◌+◌, ◌/◌, ◌%◌, nat_le, nat_lt, nat_eq, List, [], ◌∷◌, ◌++◌, length, Bool, true, false, ◌&&◌, Option, Some, None, if◌then◌else◌}
 use Rattle.std.specs.Cmp.Lexicographic.{pointwise}
 use Rattle.core_term.specs.declared.sorts.Sort.{Sort}
 use Rattle.core_term.specs.declared.sorts.Sort.TheVariants.{PropSort, SetSort, TypeSort}
-use Rattle.core_term.specs.Tree.{Tree, Variable, Universe, Const, Product, Lambda, Let, Apply}
+use Rattle.core_term.specs.Tree.{Tree, Variable, Universe, Const, Product, Apply}
 use Rattle.cic_rules.specs.declared.context.Hyp.{Hyp}
 use Rattle.cic_rules.specs.declared.decls.InductiveDecl.{InductiveDecl}
 use Rattle.cic_rules.specs.declared.decls.Ctor.{Ctor}
@@ -11,7 +11,7 @@ use Rattle.cic_rules.specs.declared.entries.Entry.{Entry}
 use Rattle.cic_rules.specs.declared.entries.EntryKind.TheVariants.{Inductive, Constructor, Eliminator}
 use Rattle.cic_rules.specs.declared.env.Slot.{Slot}
 use Rattle.cic_rules.specs.Environments.{decl_at}
-use Rattle.cic_rules.specs.Rows.{head_of, arguments_of, apply_all, count_products, end_of, over, mentions, deeper, all_deeper, applied_deeper, own_variables, put_all, put_each, under}
+use Rattle.cic_rules.specs.Rows.{head_of, apply_all, end_of, over, mentions, deeper, all_deeper, applied_deeper, own_variables, put_all, put_each, under}
 use Rattle.cic_rules.specs.Families.{count_params, count_ctors, indices, newest_first}
 
 -- one name
@@ -148,8 +148,8 @@ module _ (env : List Slot) (place : ℕ) (d : InductiveDecl) where
   case_argument false n a s rest = Product n (put_all s.values a) (rest (with_argument n s))
   case_argument true n a s rest =
       Product n (put_all s.values a)
-        (Product (hypothesis_name n) (hypothesis (deeper s.motive) (Variable 0) (all_deeper s.values) a)
-          (rest (with_binder (hypothesis_name n) (with_argument n s))))
+      (Product (hypothesis_name n) (hypothesis (deeper s.motive) (Variable 0) (all_deeper s.values) a)
+      (rest (with_binder (hypothesis_name n) (with_argument n s))))
 
   -- a case: the constructor's arguments, each recursive one followed by its hypothesis, and then the motive at the constructor
   abbrev pub case_type : Scope → Tree → Tree
@@ -176,15 +176,15 @@ module _ (env : List Slot) (place : ℕ) (d : InductiveDecl) where
   cases index [] motive values names = conclusion motive (at_params (Const place) values) values d.arity
   cases index (c ∷ cs) motive values names =
       Product (case_name c)
-        (case_type (record { motive = motive; built = at_params (Const (place + 1 + index)) values; values = values; names = names }) c.ty)
-        (cases (suc index) cs (deeper motive) (all_deeper values) (case_name c ∷ names))
+      (case_type (record { motive = motive; built = at_params (Const (place + 1 + index)) values; values = values; names = names }) c.ty)
+      (cases (suc index) cs (deeper motive) (all_deeper values) (case_name c ∷ names))
 
   -- the type of the eliminator into a sort: parameters, motive, cases, indices and value
   abbrev pub eliminator_type : Sort → Tree
   eliminator_type sort =
       over d.params
-        (Product MOTIVE (motive_type (apply_all (Const place) (own_variables (count_params d))) sort d.arity)
-          (cases 0 d.ctors (Variable 0) (all_deeper (newest_first (own_variables (count_params d)) [])) (MOTIVE ∷ hyp_names d.params)))
+      (Product MOTIVE (motive_type (apply_all (Const place) (own_variables (count_params d))) sort d.arity)
+      (cases 0 d.ctors (Variable 0) (all_deeper (newest_first (own_variables (count_params d)) [])) (MOTIVE ∷ hyp_names d.params)))
 
 -- the name of the eliminator into a sort: `_ind` into Prop, `_rec` into Set, `_rect` into Type
 abbrev pub eliminator_name : InductiveDecl → Sort → List ℕ

@@ -1,11 +1,11 @@
 -- Inductive types as reduction sees them: their constructors, their eliminators, and the iota rule.
 use Rattle.std.specs.Prelude.{ℕ, zero, suc, ◌+◌, ◌==◌, List, [], ◌∷◌, length, take, drop, Bool, true, false, Option, Some, None, if◌then◌else◌, slice_get}
-use Rattle.core_term.specs.Tree.{Tree, Variable, Universe, Const, Product, Lambda, Let, Apply}
+use Rattle.core_term.specs.Tree.{Tree, Const, Product, Lambda, Apply}
 use Rattle.cic_rules.specs.declared.decls.InductiveDecl.{InductiveDecl}
 use Rattle.cic_rules.specs.declared.decls.Ctor.{Ctor}
 use Rattle.cic_rules.specs.declared.entries.Entry.{Entry}
 use Rattle.cic_rules.specs.declared.entries.EntryKind.{EntryKind}
-use Rattle.cic_rules.specs.declared.entries.EntryKind.TheVariants.{Assumed, Admitted, Defined, Inductive, Constructor, Eliminator}
+use Rattle.cic_rules.specs.declared.entries.EntryKind.TheVariants.{Constructor, Eliminator}
 use Rattle.cic_rules.specs.declared.env.Slot.{Slot}
 use Rattle.cic_rules.specs.Environments.{entry_at, decl_at}
 use Rattle.cic_rules.specs.Rows.{head_of, arguments_of, apply_all, count_products, mentions, deeper, applied_deeper, put_all, put_each, under}
@@ -108,8 +108,8 @@ module _ (params : ℕ) where
 abbrev pub iota_result : Family → Tree → List Tree → Ctor → Tree → List Tree → Tree
 iota_result f head args c case ctor_args =
     apply_all
-      (case_applied (count_params f.decl) f.place (apply_all head (take (count_fixed f.decl) args)) case (newest_first (take (count_params f.decl) args) []) c.ty ctor_args)
-      (drop (count_before_value f.decl + 1) args)
+    (case_applied (count_params f.decl) f.place (apply_all head (take (count_fixed f.decl) args)) case (newest_first (take (count_params f.decl) args) []) c.ty ctor_args)
+    (drop (count_before_value f.decl + 1) args)
 
 abbrev iota_case : Family → Tree → List Tree → Ctor → Option Tree → List Tree → Option Tree
 iota_case f head args c None value_args = None

@@ -12,7 +12,7 @@ pub record FuelState : Type 0 where
 abbrev pub fuel_code : Coded FuelState
 fuel_code =
     code_by (ℕ × (ℕ × ℕ)) (coded× coded_ℕ (coded× coded_ℕ coded_ℕ)) (λ f. (f.limit, (f.spent, f.nesting)))
-      (λ p. record { limit = p.0; spent = p.1.0; nesting = p.1.1 }) (λ f. refl)
+    (λ p. record { limit = p.0; spent = p.1.0; nesting = p.1.1 }) (λ f. refl)
 
 -- how many judgements may stand in one another
 abbrev pub NESTING_LIMIT : ℕ

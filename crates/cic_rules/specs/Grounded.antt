@@ -5,7 +5,7 @@ use Rattle.core_term.specs.Tree.{Tree, Universe}
 use Rattle.cic_rules.specs.declared.decls.InductiveDecl.{InductiveDecl}
 use Rattle.cic_rules.specs.declared.entries.Entry.{Entry}
 use Rattle.cic_rules.specs.declared.entries.EntryKind.{EntryKind}
-use Rattle.cic_rules.specs.declared.entries.EntryKind.TheVariants.{Assumed, Admitted, Defined, Inductive, Constructor, Eliminator}
+use Rattle.cic_rules.specs.declared.entries.EntryKind.TheVariants.{Assumed, Admitted, Defined, Constructor, Eliminator}
 use Rattle.cic_rules.specs.declared.env.Slot.{Slot}
 use Rattle.cic_rules.specs.Environments.{entry_at, decl_at, has}
 use Rattle.cic_rules.specs.Infer.{union}

@@ -1,10 +1,10 @@
 -- Inductive declarations: their refusals in order, and the sorts that their eliminators may go into.
-use Rattle.std.specs.Prelude.{ℕ, zero, suc, ◌+◌, ◌==◌, List, [], ◌∷◌, ◌++◌, length, take, drop, Bool, true, false, ◌&&◌, Option, Some, None, if◌then◌else◌}
+use Rattle.std.specs.Prelude.{ℕ, zero, suc, ◌+◌, ◌==◌, List, [], ◌∷◌, ◌++◌, length, take, drop, Bool, true, false, ◌&&◌, if◌then◌else◌}
 use Rattle.base_core.specs.declared.refusals.Limit.TheVariants.{DepthLimit}
 use Rattle.core_term.specs.declared.sorts.Sort.{Sort}
 use Rattle.core_term.specs.declared.sorts.Sort.TheVariants.{PropSort, SetSort, TypeSort}
 use Rattle.core_term.specs.Sorts.{sort_below, sort_of_product}
-use Rattle.core_term.specs.Tree.{Tree, Variable, Universe, Const, Product, Lambda, Let, Apply, is_small, same_tree}
+use Rattle.core_term.specs.Tree.{Tree, Universe, Const, Product}
 use Rattle.cic_rules.specs.declared.context.Hyp.{Hyp}
 use Rattle.cic_rules.specs.declared.decls.InductiveDecl.{InductiveDecl}
 use Rattle.cic_rules.specs.declared.decls.Ctor.{Ctor}
@@ -13,10 +13,10 @@ use Rattle.cic_rules.specs.declared.entries.EntryKind.TheVariants.{Assumed}
 use Rattle.cic_rules.specs.declared.env.Slot.{Slot}
 use Rattle.cic_rules.specs.Contexts.{plain_hyp}
 use Rattle.cic_rules.specs.Environments.{entered, is_taken, without}
-use Rattle.cic_rules.specs.Rows.{head_of, arguments_of, count_products, end_of, mentions, any_mentions, same_trees, all_deeper, own_variables}
+use Rattle.cic_rules.specs.Rows.{head_of, arguments_of, end_of, mentions, any_mentions, same_trees, all_deeper, own_variables}
 use Rattle.cic_rules.specs.Families.{count_params, count_indices}
 use Rattle.cic_rules.specs.Convert.{within}
-use Rattle.cic_rules.specs.Infer.{union, Sorted, sorted, sort_of_at}
+use Rattle.cic_rules.specs.Infer.{union, Sorted, sort_of_at}
 use Rattle.cic_rules.specs.Eliminators.{has_name, eliminator_name, type_of_decl}
 use Rattle.cic_rules.specs.Runs.{Ran, ended, done, out, refused, charge, then_do, made}
 
@@ -185,8 +185,8 @@ module _ (d : InductiveDecl) where
   settled place s used rows left =
       if are_positive place params_of d.ctors
       then (if rows_fit s rows.rows
-        then done (record { sorts = permitted s rows.rows; used = without place (union used rows.used) }) left
-        else refused 33 left)
+      then done (record { sorts = permitted s rows.rows; used = without place (union used rows.used) }) left
+      else refused 33 left)
       else refused 32 left
 
   module _ (env : List Slot) (calls : ℕ) (s : Sort) where

@@ -6,7 +6,7 @@ use Rattle.base_core.specs.declared.refusals.Stop.TheVariants.{Refused, Out, NoM
 use Rattle.core_term.specs.Tree.{Tree}
 use Rattle.cic_rules.specs.declared.context.Hyp.{Hyp}
 use Rattle.cic_rules.specs.declared.decls.Decl.{Decl}
-use Rattle.cic_rules.specs.declared.decls.Decl.TheVariants.{Assume, Define, Admit, Induct}
+use Rattle.cic_rules.specs.declared.decls.Decl.TheVariants.{Induct}
 use Rattle.cic_rules.specs.declared.env.Slot.{Slot}
 use Rattle.cic_rules.specs.declared.judge.Answer.{Answer}
 use Rattle.cic_rules.specs.declared.judge.Answer.TheVariants.{Yes, No, Out as OutOf}

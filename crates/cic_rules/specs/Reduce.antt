@@ -1,7 +1,7 @@
 -- Weak head reduction, by substitution on plain trees, with its units.
-use Rattle.std.specs.Prelude.{ℕ, zero, suc, ◌+◌, List, [], ◌∷◌, Bool, true, false, Option, Some, None, if◌then◌else◌}
+use Rattle.std.specs.Prelude.{ℕ, zero, suc, ◌+◌, List, ◌∷◌, Bool, Option, Some, None, if◌then◌else◌}
 use Rattle.base_core.specs.declared.refusals.Limit.TheVariants.{DepthLimit}
-use Rattle.core_term.specs.Tree.{Tree, Variable, Universe, Const, Product, Lambda, Let, Apply, size_of}
+use Rattle.core_term.specs.Tree.{Tree, Variable, Const, Lambda, Let, size_of}
 use Rattle.core_term.specs.Places.{substituted}
 use Rattle.cic_rules.specs.declared.context.Hyp.{Hyp}
 use Rattle.cic_rules.specs.declared.env.Slot.{Slot}

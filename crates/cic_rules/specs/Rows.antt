@@ -1,9 +1,8 @@
 -- Rows of arguments and of products.
-use Rattle.std.specs.Prelude.{ℕ, zero, suc, ◌+◌, ◌-◌, ◌≤◌, nat_lt, List, [], ◌∷◌, ◌++◌, length, drop, Bool, true, false, ◌&&◌, Option, Some, None, if◌then◌else◌, slice_get}
+use Rattle.std.specs.Prelude.{ℕ, zero, suc, ◌+◌, ◌-◌, nat_lt, List, [], ◌∷◌, ◌++◌, length, Bool, true, false, ◌&&◌, Option, Some, None, if◌then◌else◌, slice_get}
 use Rattle.core_term.specs.Tree.{Tree, Variable, Universe, Const, Product, Lambda, Let, Apply, same_tree}
 use Rattle.core_term.specs.Places.{lifted}
 use Rattle.cic_rules.specs.declared.context.Hyp.{Hyp}
-use Rattle.cic_rules.specs.Contexts.{plain_hyp}
 use Rattle.cic_rules.specs.Environments.{has, globals_of}
 
 -- what a term applies, and to which arguments, the first first

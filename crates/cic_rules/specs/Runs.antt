@@ -1,10 +1,10 @@
 -- Runs that are paid with units: each definition of a judgement is put together from these.
-use Rattle.std.specs.Prelude.{◌≡◌, ℕ, zero, suc, ◌-◌, nat_le, Bool, true, false, Result, Ok, Err, if◌then◌else◌}
+use Rattle.std.specs.Prelude.{ℕ, zero, suc, ◌-◌, nat_le, Result, Ok, Err, if◌then◌else◌}
 use Rattle.base_core.specs.declared.refusals.Stop.{Stop}
-use Rattle.base_core.specs.declared.refusals.Stop.TheVariants.{Refused, Out, NoMem}
+use Rattle.base_core.specs.declared.refusals.Stop.TheVariants.{Refused, Out}
 use Rattle.base_core.specs.declared.refusals.Place.TheVariants.{Whole}
 use Rattle.base_core.specs.declared.refusals.Limit.{Limit}
-use Rattle.base_core.specs.declared.refusals.Limit.TheVariants.{StepLimit, DepthLimit, SizeLimit}
+use Rattle.base_core.specs.declared.refusals.Limit.TheVariants.{StepLimit, SizeLimit}
 use Rattle.core_term.specs.Tree.{Tree, is_small}
 
 -- what a run answers, and how many units it leaves

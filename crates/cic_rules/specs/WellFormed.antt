@@ -1,5 +1,5 @@
 -- Environments that are well formed by the typing relation.
-use Rattle.std.specs.Prelude.{◌≡◌, ℕ, List, [], ◌∷◌, ◌++◌, length, Bool, false, Option, Some, None, IsTrue}
+use Rattle.std.specs.Prelude.{◌≡◌, ℕ, List, [], ◌∷◌, ◌++◌, length, Bool, false, Some, IsTrue}
 use Rattle.core_term.specs.declared.sorts.Sort.{Sort}
 use Rattle.core_term.specs.Tree.{Tree, Universe, Product}
 use Rattle.cic_rules.specs.declared.context.Hyp.{Hyp}
@@ -10,10 +10,10 @@ use Rattle.cic_rules.specs.declared.entries.EntryKind.{EntryKind}
 use Rattle.cic_rules.specs.declared.entries.EntryKind.TheVariants.{Assumed, Admitted, Defined}
 use Rattle.cic_rules.specs.declared.env.Slot.{Slot}
 use Rattle.cic_rules.specs.Contexts.{plain_hyp}
-use Rattle.cic_rules.specs.Environments.{own_slot, slotted, AreBefore, AreNew}
+use Rattle.cic_rules.specs.Environments.{own_slot, slotted, AreBefore}
 use Rattle.cic_rules.specs.Rows.{count_products, end_of}
 use Rattle.cic_rules.specs.Families.{count_indices}
-use Rattle.cic_rules.specs.Eliminators.{family_entries, type_of_decl}
+use Rattle.cic_rules.specs.Eliminators.{family_entries}
 use Rattle.cic_rules.specs.Inductive.{has_twice, names_of, any_taken, is_constructors, are_positive, rows_fit, permitted, params_of, assumed_type}
 use Rattle.cic_rules.specs.Derive.{IsFormed, Derives}
 

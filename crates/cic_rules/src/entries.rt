@@ -22,22 +22,13 @@ pub enum EntryKind {
     /// A theorem without a proof.
     Admitted,
     /// Reduction looks into the body of a transparent definition only.
-    Defined {
-        body: Term,
-        opaque: bool,
-    },
+    Defined { body: Term, opaque: bool },
     /// An inductive type with so many constructors.
     Inductive(u32),
     /// The constructor with this index of the inductive type at a place.
-    Constructor {
-        of: u32,
-        index: u32,
-    },
+    Constructor { of: u32, index: u32 },
     /// The eliminator into this sort of the inductive type at a place.
-    Eliminator {
-        of: u32,
-        sort: Sort,
-    },
+    Eliminator { of: u32, sort: Sort },
 }
 
 /// A list of entries, as of an inductive type with its constructors and eliminators.
