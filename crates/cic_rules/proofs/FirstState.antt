@@ -11,7 +11,7 @@ use Rattle.cic_rules.specs.declared.env.Slot.{Slot}
 use Rattle.cic_rules.specs.declared.judge.Mode.TheVariants.{Same}
 use Rattle.cic_rules.specs.Contexts.{plain_hyp}
 use Rattle.cic_rules.specs.Environments.{type_of_global}
-use Rattle.cic_rules.specs.Runs.{Ran, done, then_do, repeat}
+use Rattle.cic_rules.specs.Runs.{Ran, refused, done, then_do, repeat}
 use Rattle.cic_rules.specs.Reduce.{whnf_at}
 use Rattle.cic_rules.specs.Convert.{conv_at, blocker_at}
 use Rattle.cic_rules.specs.Infer.{infer_at}
@@ -130,3 +130,44 @@ answer_of r = r.answer
 two_and_one : answer_of (conv_at (environment_of first_state.answer) 2000 [] Same (apply2 PLUS (Apply S (Apply S O)) (Apply S O)) (Apply S (Apply S (Apply S O))) 1000000) ≡ Ok true
 unfolding repeat whnf_at conv_at blocker_at infer_at row_at
 two_and_one = refl
+
+abbrev SET : Tree
+SET = Universe SetSort
+
+-- an inductive type T, at place 40, whose only constructor c has this type
+abbrev one_constructor : Tree → Decl
+one_constructor ty = inductive (84 ∷ []) [] SET (ctor (99 ∷ []) ty ∷ [])
+
+-- its answer in the first state, where 100 units are left
+abbrev tried : Decl → Ran (List Slot)
+tried d = declare_at (environment_of first_state.answer) 2000 d 100
+
+-- two names are one: the type and its constructor
+refused_twice : tried (inductive (84 ∷ []) [] SET (ctor (84 ∷ []) (Const 40) ∷ [])) ≡ refused 34 100
+unfolding repeat whnf_at conv_at blocker_at infer_at row_at
+refused_twice = refl
+
+-- the name I is taken
+refused_taken : tried (inductive (84 ∷ []) [] SET (ctor (73 ∷ []) (Const 40) ∷ [])) ≡ refused 25 100
+unfolding repeat whnf_at conv_at blocker_at infer_at row_at
+refused_taken = refl
+
+-- the arity is no row of products that ends in a sort
+refused_arity : tried (inductive (84 ∷ []) [] NAT []) ≡ refused 30 100
+unfolding repeat whnf_at conv_at blocker_at infer_at row_at
+refused_arity = refl
+
+-- the constructor is one of nat
+refused_constructor : tried (one_constructor NAT) ≡ refused 31 98
+unfolding repeat whnf_at conv_at blocker_at infer_at row_at
+refused_constructor = refl
+
+-- (T -> nat) -> T
+refused_positivity : tried (one_constructor (arrow (arrow (Const 40) NAT) (Const 40))) ≡ refused 32 94
+unfolding repeat whnf_at conv_at blocker_at infer_at row_at
+refused_positivity = refl
+
+-- Set -> T
+refused_universe : tried (one_constructor (arrow SET (Const 40))) ≡ refused 33 96
+unfolding repeat whnf_at conv_at blocker_at infer_at row_at
+refused_universe = refl
