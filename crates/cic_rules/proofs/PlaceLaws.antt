@@ -4,7 +4,8 @@ use Rattle.std.proofs.Common.{◌≡◌, ℕ, suc, ◌+◌, ◌^◌, ◌<◌, co
 use Rattle.std.specs.Prelude.{insert}
 use Rattle.std.specs.Cmp.Lexicographic.{slice_cmp, nat_list_cmp_total}
 use Rattle.std.specs.Ordering.{nat_cmp}
-use Rattle.core_term.specs.Tree.{Tree}
+use Rattle.core_term.specs.declared.sorts.Sort.{Sort}
+use Rattle.core_term.specs.Tree.{Tree, Universe}
 use Rattle.shared_map.specs.Entries.{look}
 use Rattle.shared_map.proofs.EntriesLaws.{look-put, look-last, in_order-put}
 use Rattle.cic_rules.specs.declared.decls.InductiveDecl.{InductiveDecl}
@@ -68,3 +69,13 @@ own_slot_is env e h = record { entry = h.entry; covers = covers_own (length env)
 pub length_slotted : (d : Option InductiveDecl) (entries : List Entry) → length (slotted d entries) ≡ length entries
 length_slotted d [] = refl
 length_slotted d (e ∷ es) = ap suc (length_slotted None es)
+
+-- an assumption of a sort, which uses nothing, may be entered under a new name
+pub may_assume : (env : List Slot) (e : Entry) (s : Sort) → IsNew env e.name → e.ty ≡ Universe s → e.kind ≡ Assumed → e.used ≡ [] → MayEnter env e
+may_assume env e s new ty kind used =
+    record {
+      new = new;
+      own = rw kind tt;
+      entry = record { closed = rw (ty, kind) (refl, tt); globals = rw (ty, kind) tt; ascending = rw used tt; used = rw used tt };
+      used = rw (ty, kind) tt;
+    }

@@ -1,5 +1,6 @@
-use crate::{Fuel, GlobalEnv};
-use base_core::Text;
+use crate::{Entry, EntryKind, Fuel, GlobalEnv};
+use base_core::{NumberList, Text};
+use core_term::{Sort, Term};
 use std::alloc::Global;
 use std::process::Abort;
 use std::test::Fail;
@@ -25,9 +26,39 @@ fn names<A: Abort>(rt: &A, alloc: Global) -> Result<(), Fail> {
     Ok(())
 }
 
+fn assume(alloc: Global, env: &GlobalEnv, name: &str) -> Result<GlobalEnv, Fail> {
+    let name = Text::copy(alloc, name)?;
+    if let Some(_) = env.place_of(&name) {
+        return Err(Fail::from("the name is taken"));
+    }
+    let ty = Term::sort(alloc, Sort::PropSort)?;
+    let entry = Entry {
+        name,
+        ty,
+        kind: EntryKind::Assumed,
+        used: NumberList::new(alloc),
+    };
+    match env.with_entry(alloc, entry) {
+        Ok(env) => Ok(env),
+        Err(_) => Err(Fail::from("no environment")),
+    }
+}
+
+fn environments<A: Abort>(rt: &A, alloc: Global) -> Result<(), Fail> {
+    let one = assume(alloc, &GlobalEnv::empty(), "B")?;
+    let two = assume(alloc, &one, "A")?;
+    assert_eq!(rt; one.len(), 1);
+    assert_eq!(rt; two.len(), 2);
+    let a = Text::copy(alloc, "A")?;
+    assert_eq!(rt; two.place_of(&a), Some(1));
+    assert_eq!(rt; one.place_of(&a), None);
+    Ok(())
+}
+
 #[test]
 fn rules(rt: HostRuntime) -> Result<(), Fail> {
     let alloc = rt.alloc();
     fuel(&rt);
-    names(&rt, alloc)
+    names(&rt, alloc)?;
+    environments(&rt, alloc)
 }
