@@ -1,4 +1,4 @@
-use crate::{Entry, EntryKind, Fuel, GlobalEnv};
+use crate::{Context, Entry, EntryKind, Fuel, GlobalEnv, Hyp};
 use base_core::{NumberList, Text};
 use core_term::{Sort, Term};
 use std::alloc::Global;
@@ -55,10 +55,33 @@ fn environments<A: Abort>(rt: &A, alloc: Global) -> Result<(), Fail> {
     Ok(())
 }
 
+fn contexts<A: Abort>(rt: &A, alloc: Global) -> Result<(), Fail> {
+    let hyp = Hyp {
+        name: Text::copy(alloc, "x")?,
+        ty: Term::sort(alloc, Sort::PropSort)?,
+        value: None,
+    };
+    let Ok(one) = Context::empty().with(alloc, hyp) else {
+        return Err(Fail::from("no context"));
+    };
+    if one.len() == 0 {
+        return Err(Fail::from("an empty context"));
+    }
+    let renamed = one.rename(alloc, 0, Text::copy(alloc, "y")?)?;
+    let (Some(old), Some(new)) = (one.get(0), renamed.get(0)) else {
+        return Err(Fail::from("no hypothesis"));
+    };
+    assert_eq!(rt; old.name.as_str(), "x");
+    assert_eq!(rt; new.name.as_str(), "y");
+    assert_eq!(rt; renamed.share()?.len(), 1);
+    Ok(())
+}
+
 #[test]
 fn rules(rt: HostRuntime) -> Result<(), Fail> {
     let alloc = rt.alloc();
     fuel(&rt);
     names(&rt, alloc)?;
-    environments(&rt, alloc)
+    environments(&rt, alloc)?;
+    contexts(&rt, alloc)
 }
