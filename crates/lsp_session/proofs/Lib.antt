@@ -3,3 +3,4 @@ pub mod Joins
 pub mod Heard
 pub mod Turned
 pub mod Played
+pub mod Told

@@ -7,7 +7,7 @@ use Rattle.lsp_session.specs.declared.endings.Ending.TheVariants as ending
 use Rattle.lsp_session.specs.Rules.{Rules}
 use Rattle.lsp_session.specs.Run.{Progress, Going, Gone, Strange, play, played, stopped, Outcome, outcome, byte_limit}
 use Rattle.lsp_session.specs.Calls.{IsCut, IsRun, OnePoll, IsBroken, Fails}
-use Rattle.lsp_session.specs.Serves.{Plays, polled_all, IsWhole, IsFront}
+use Rattle.lsp_session.specs.Serves.{Plays, polled_all, WholeFrom, FrontFrom}
 
 polled_none : (old : Option (List Poll)) → old ≡ polled_all old []
 polled_none None = refl
@@ -33,7 +33,7 @@ plays_next rules paced start mid end old now new h k = record {
 }
 
 -- the run ended at the last poll
-pub whole_gone : {S : Type 0} (rules : Rules S) (paced : Bool) (first state : S) (end : Ending) (told now : Option (List ℕ)) (old new : Option (List Poll)) → Plays rules paced (Going first [] 0 told) (Gone end state now) old new → IsWhole rules paced first end state told now old new
+pub whole_gone : {S : Type 0} (rules : Rules S) (paced : Bool) (first state : S) (end : Ending) (told now : Option (List ℕ)) (old new : Option (List Poll)) → Plays rules paced (Going first [] 0 told) (Gone end state now) old new → WholeFrom rules paced first end state told now old new
 whole_gone rules paced first state end told now old new h = record { polls = h.polls; grown = h.grown; ran = ap stopped h.plays }
 
 stopped_on : {S : Type 0} (state : S) (pending : List ℕ) (taken : ℕ) (told : Option (List ℕ)) → taken < byte_limit → stopped (Going state pending taken told) ≡ Some (outcome ending.LinkFailed state told)
@@ -42,7 +42,7 @@ stopped_on state pending taken told few =
     rw below refl
 
 -- the link gave no more
-pub whole_lost : {S : Type 0} (rules : Rules S) (paced : Bool) (first state : S) (pending : List ℕ) (taken : ℕ) (told now : Option (List ℕ)) (old new : Option (List Poll)) → taken < byte_limit → Plays rules paced (Going first [] 0 told) (Going state pending taken now) old new → IsWhole rules paced first ending.LinkFailed state told now old new
+pub whole_lost : {S : Type 0} (rules : Rules S) (paced : Bool) (first state : S) (pending : List ℕ) (taken : ℕ) (told now : Option (List ℕ)) (old new : Option (List Poll)) → taken < byte_limit → Plays rules paced (Going first [] 0 told) (Going state pending taken now) old new → WholeFrom rules paced first ending.LinkFailed state told now old new
 whole_lost rules paced first state pending taken told now old new few h = record { polls = h.polls; grown = h.grown; ran = ap stopped h.plays ∙ stopped_on state pending taken now few }
 
 abbrev lost_at : {S : Type 0} → Progress S → Option (Outcome S)
@@ -51,27 +51,27 @@ lost_at (Gone end state told) = None
 lost_at Strange = None
 
 -- a poll failed, whether or not it was told
-pub whole_failed : {S : Type 0} (rules : Rules S) (paced : Bool) (first state state' : S) (pending pending' : List ℕ) (taken taken' : ℕ) (told mid now : Option (List ℕ)) (old here new : Option (List Poll)) → taken < byte_limit → Plays rules paced (Going first [] 0 told) (Going state pending taken mid) old here → Fails rules paced (Going state pending taken mid) state' now here new → Going state pending taken mid ≡ Going state' pending' taken' now → IsWhole rules paced first ending.LinkFailed state' told now old new
+pub whole_failed : {S : Type 0} (rules : Rules S) (paced : Bool) (first state state' : S) (pending pending' : List ℕ) (taken taken' : ℕ) (told mid now : Option (List ℕ)) (old here new : Option (List Poll)) → taken < byte_limit → Plays rules paced (Going first [] 0 told) (Going state pending taken mid) old here → Fails rules paced (Going state pending taken mid) state' now here new → Going state pending taken mid ≡ Going state' pending' taken' now → WholeFrom rules paced first ending.LinkFailed state' told now old new
 whole_failed rules paced first state state' pending pending' taken taken' told mid now old here new few h fails same = by fails where
-  by : Fails rules paced (Going state pending taken mid) state' now here new → IsWhole rules paced first ending.LinkFailed state' told now old new
+  by : Fails rules paced (Going state pending taken mid) state' now here new → WholeFrom rules paced first ending.LinkFailed state' told now old new
   by (inl e) = record { polls = h.polls; grown = e ∙ h.grown; ran = ap stopped h.plays ∙ stopped_on state pending taken mid few ∙ ap lost_at same }
   by (inr k) = whole_gone rules paced first state' ending.LinkFailed told now old new (plays_next rules paced (Going first [] 0 told) (Going state pending taken mid) (Gone ending.LinkFailed state' now) old here new h k)
 
 -- as many bytes were taken as may be
-pub whole_full : {S : Type 0} (rules : Rules S) (paced : Bool) (first state : S) (pending : List ℕ) (taken : ℕ) (told now : Option (List ℕ)) (old new : Option (List Poll)) → byte_limit ≤ taken → Plays rules paced (Going first [] 0 told) (Going state pending taken now) old new → IsWhole rules paced first ending.TakenLimit state told now old new
+pub whole_full : {S : Type 0} (rules : Rules S) (paced : Bool) (first state : S) (pending : List ℕ) (taken : ℕ) (told now : Option (List ℕ)) (old new : Option (List Poll)) → byte_limit ≤ taken → Plays rules paced (Going first [] 0 told) (Going state pending taken now) old new → WholeFrom rules paced first ending.TakenLimit state told now old new
 whole_full rules paced first state pending taken told now old new full h =
     let above : nat_lt taken byte_limit ≡ false = grind (arith, nat_tests) in
     let ends : stopped (Going state pending taken now) ≡ Some (outcome ending.TakenLimit state now) = rw above refl in
     record { polls = h.polls; grown = h.grown; ran = ap stopped h.plays ∙ ends }
 
 -- what the last poll brought was broken off
-pub front_broken : {S : Type 0} (rules : Rules S) (paced : Bool) (first state : S) (pending : List ℕ) (taken : ℕ) (told mid now : Option (List ℕ)) (old here new : Option (List Poll)) → taken < byte_limit → Plays rules paced (Going first [] 0 told) (Going state pending taken mid) old here → IsBroken rules paced (Going state pending taken mid) mid now here new → IsFront rules paced first told now old new
+pub front_broken : {S : Type 0} (rules : Rules S) (paced : Bool) (first state : S) (pending : List ℕ) (taken : ℕ) (told mid now : Option (List ℕ)) (old here new : Option (List Poll)) → taken < byte_limit → Plays rules paced (Going first [] 0 told) (Going state pending taken mid) old here → IsBroken rules paced (Going state pending taken mid) mid now here new → FrontFrom rules paced first told now old new
 front_broken {S = S} rules paced first state pending taken told mid now old here new few h b = by b.whole b.is_run b.cut b.poll.plays where
   grown : new ≡ polled_all old (h.polls ++ b.poll.one ∷ [])
   grown = b.poll.grown ∙ ap (λ p. polled p b.poll.one) h.grown ∙ polled_next old h.polls b.poll.one
   plays : played rules paced (Going first [] 0 told) (h.polls ++ b.poll.one ∷ []) ≡ play rules paced (Going state pending taken mid) b.poll.one
   plays = played_next rules paced (Going first [] 0 told) h.polls b.poll.one ∙ ap (λ p. play rules paced p b.poll.one) h.plays
-  by : (p : Progress S) → IsRun p → IsCut p mid now → play rules paced (Going state pending taken mid) b.poll.one ≡ p → IsFront rules paced first told now old new
+  by : (p : Progress S) → IsRun p → IsCut p mid now → play rules paced (Going state pending taken mid) b.poll.one ≡ p → FrontFrom rules paced first told now old new
   by (Going s pending' taken' w) r cut e = record {
     earlier = h.polls;
     last = b.poll.one;

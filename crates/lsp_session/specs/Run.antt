@@ -103,5 +103,9 @@ stopped Strange = None
 
 -- the run from a state over the polls of a call, to a sink that told this before; none where these are no
 -- polls of a session
-abbrev pub run : {S : Type 0} → Rules S → Bool → S → Option (List ℕ) → List Poll → Option (Outcome S)
-run rules paced state told polls = stopped (played rules paced (Going state [] 0 told) polls)
+abbrev pub run_from : {S : Type 0} → Rules S → Bool → S → Option (List ℕ) → List Poll → Option (Outcome S)
+run_from rules paced state told polls = stopped (played rules paced (Going state [] 0 told) polls)
+
+-- the run, told from its beginning on
+abbrev pub run : {S : Type 0} → Rules S → Bool → S → List Poll → Option (Outcome S)
+run rules paced state polls = run_from rules paced state (Some []) polls

@@ -1,7 +1,7 @@
-ghost use Rattle.std.specs.Prelude.{◌≡◌, ◌≢◌, ◌⊎◌, ◌≤◌, Ok};
+ghost use Rattle.std.specs.Prelude.{◌≡◌, ◌≢◌, ◌⊎◌, ◌≤◌, ℕ, List, Some, Ok};
 ghost use Rattle.std.specs.Result.{IsErrOf};
 ghost use Rattle.base_core.specs.Faults.{Rose};
-ghost use Rattle.lsp_session.specs.Serves.{Serves, ServesWhole, IsFront};
+ghost use Rattle.lsp_session.specs.Serves.{ServesFrom, Serves, ServesWhole, IsFront};
 
 use crate::endings::{Ending, Halt, number};
 use crate::machine::Machine;
@@ -17,7 +17,7 @@ fn take_turns<L: Link, S: Sink, M: Machine>(
     paced: bool,
     machine: &mut M,
 ) -> Result<Ending, Halt>
-    ensures serves { Serves M.rules paced (M.plain machine.old) result (M.plain machine.new) (S.written out.old) (S.written out.new) (L.polls link.old) (L.polls link.new) }
+    ensures serves { ServesFrom M.rules paced (M.plain machine.old) result (M.plain machine.new) (S.written out.old) (S.written out.new) (L.polls link.old) (L.polls link.new) }
     ensures link { result ≡ Ok Ending.LinkFailed → Rose (L.faults link.old) (L.faults link.new) }
     ensures sink { IsErrOf result Halt.SinkFailed → Rose (S.faults out.old) (S.faults out.new) }
 {
@@ -36,6 +36,20 @@ fn take_turns<L: Link, S: Sink, M: Machine>(
     Ok(Ending::TakenLimit)
 }
 
+fn converse<L: Link, S: Sink, M: Machine>(
+    alloc: Global,
+    link: &mut L,
+    out: &mut S,
+    paced: bool,
+    machine: &mut M,
+) -> Result<Ending, Halt>
+    ensures serves { Serves M.rules paced (M.plain machine.old) result (M.plain machine.new) (S.written out.old) (S.written out.new) (L.polls link.old) (L.polls link.new) }
+    ensures link { result ≡ Ok Ending.LinkFailed → Rose (L.faults link.old) (L.faults link.new) }
+    ensures sink { IsErrOf result Halt.SinkFailed → Rose (S.faults out.old) (S.faults out.new) }
+{
+    take_turns(alloc, link, out, paced, machine)
+}
+
 /// A session over a link and a sink, to its exit status. A paced session waits at each poll; another
 /// waits only where the machine has nothing left to do.
 pub fn serve<L: Link, S: Sink, M: Machine>(
@@ -48,10 +62,10 @@ pub fn serve<L: Link, S: Sink, M: Machine>(
     // What was written is what the run over the polls of this call writes, and the status is its end.
     ensures whole { result ≢ 4 → result ≢ 5 → ServesWhole M.rules paced (M.plain machine.old) result (M.plain machine.new) (S.written out.old) (S.written out.new) (L.polls link.old) (L.polls link.new) }
 
-    // A first part of it, which holds all that the run without the last poll writes.
-    ensures cut { (result ≡ 4) ⊎ (result ≡ 5) → IsFront M.rules paced (M.plain machine.old) (S.written out.old) (S.written out.new) (L.polls link.old) (L.polls link.new) }
+    // Else a first part of that, which holds all that the run without the last poll writes.
+    ensures cut { (result ≡ 4) ⊎ (result ≡ 5) → (bytes : List ℕ) → S.written out.old ≡ Some bytes → IsFront M.rules paced (M.plain machine.old) (S.written out.old) (S.written out.new) (L.polls link.old) (L.polls link.new) }
     ensures link { result ≡ 3 → Rose (L.faults link.old) (L.faults link.new) }
     ensures sink { result ≡ 5 → Rose (S.faults out.old) (S.faults out.new) }
 {
-    number(take_turns(alloc, link, out, paced, machine))
+    number(converse(alloc, link, out, paced, machine))
 }
