@@ -10,7 +10,7 @@ use Rattle.lsp_session.specs.declared.endings.Halt.{Halt}
 use Rattle.lsp_session.specs.declared.messages.Drained.{Drained}
 use Rattle.lsp_session.specs.declared.messages.Drained.TheVariants as drained
 use Rattle.lsp_session.specs.Rules.{Step, Rules, said}
-use Rattle.lsp_session.specs.Run.{Progress, Going, Gone, unless_exit, after_step, at_end, each_heard, all_heard, fault_bytes}
+use Rattle.lsp_session.specs.Run.{Progress, Gone, unless_exit, after_step, at_end, each_heard, all_heard, fault_bytes}
 use Rattle.lsp_session.specs.Calls.{Extends, told_at, IsCut, Does, Drains, Goes}
 
 pub extends_none : (told : Option (List ℕ)) → Extends told told

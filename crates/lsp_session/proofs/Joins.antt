@@ -1,17 +1,15 @@
 -- Calls that write, one after another.
-use Rattle.std.proofs.Common.{◌≡◌, ℕ, ◌+◌, ◌-◌, ◌^◌, ◌≤◌, min, Option, Result, Ok, Err, List, [], ◌∷◌, ◌++◌, length, get_or, take, drop, ◌<◌, append-nil, refl, sym, ◌∙◌, ap, subst, arith}
-use Rattle.std.specs.Result.{IsErr, IsErrOf, IsErrAnd}
+use Rattle.std.proofs.Common.{◌≡◌, ℕ, ◌+◌, Option, Result, Ok, Err, List, [], ◌∷◌, ◌++◌, length, get_or, take, drop, ◌<◌, append-nil, refl, sym, ◌∙◌, ap, arith}
+use Rattle.std.specs.Result.{IsErrOf, IsErrAnd}
 use Rattle.std.specs.List.{flat_map}
 use Rattle.std.proofs.lemmas.List.{take_more, take-append-drop}
 use Rattle.std.proofs.lemmas.List.Concat.{flat_map-append}
-use Rattle.base_core.specs.Faults.{Rose}
-use Rattle.base_core.specs.Sink.{appended, Begins}
+use Rattle.base_core.specs.Sink.{appended}
 use Rattle.base_core.proofs.Begun.{appended-appended, begins_second, begins_front}
 use Rattle.lsp_session.specs.declared.endings.Halt.{Halt}
 use Rattle.lsp_session.specs.declared.endings.Halt.TheVariants.{SinkFailed}
 use Rattle.lsp_session.specs.Writes.{Writes}
 use Rattle.lsp_session.proofs.Pieces.{rose_later}
-
 
 -- a call that wrote these, and then one that wrote those
 pub writes_then : {D T U : Type 0} (written : D → Option (List ℕ)) (faults : D → ℕ) (old mid new : D) (x : T) (r : Result U Halt) (a b : List ℕ) → Writes {T = T} written faults old mid (Ok x) a → Writes written faults mid new r b → Writes written faults old new r (a ++ b)

@@ -1,5 +1,5 @@
 -- The polls of a call, one after another.
-use Rattle.std.proofs.Common.{◌≡◌, ℕ, ◌<◌, ◌≤◌, ◌⊎◌, inl, inr, Bool, true, false, nat_lt, Option, None, Some, List, [], ◌∷◌, ◌++◌, refl, sym, ◌∙◌, ap, subst, append_assoc, append-nil, arith, if◌then◌else◌}
+use Rattle.std.proofs.Common.{◌≡◌, ℕ, ◌<◌, ◌≤◌, inl, inr, Bool, true, false, nat_lt, Option, None, Some, List, [], ◌∷◌, ◌++◌, refl, sym, ◌∙◌, ap, append_assoc, append-nil, arith, if◌then◌else◌}
 use Rattle.std.proofs.lemmas.Bool.Decides.{nat_tests}
 use Rattle.base_core.specs.Link.{Poll, polled}
 use Rattle.lsp_session.specs.declared.endings.Ending.{Ending}
@@ -69,8 +69,10 @@ pub front_broken : {S : Type 0} (rules : Rules S) (paced : Bool) (first state : 
 front_broken {S = S} rules paced first state pending taken told mid now old here new few h b = by b.whole b.is_run b.cut b.poll.plays where
   grown : new ≡ polled_all old (h.polls ++ b.poll.one ∷ [])
   grown = b.poll.grown ∙ ap (λ p. polled p b.poll.one) h.grown ∙ polled_next old h.polls b.poll.one
+
   plays : played rules paced (Going first [] 0 told) (h.polls ++ b.poll.one ∷ []) ≡ play rules paced (Going state pending taken mid) b.poll.one
   plays = played_next rules paced (Going first [] 0 told) h.polls b.poll.one ∙ ap (λ p. play rules paced p b.poll.one) h.plays
+
   by : (p : Progress S) → IsRun p → IsCut p mid now → play rules paced (Going state pending taken mid) b.poll.one ≡ p → FrontFrom rules paced first told now old new
   by (Going s pending' taken' w) r cut e = record {
     earlier = h.polls;

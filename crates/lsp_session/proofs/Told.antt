@@ -10,7 +10,7 @@ use Rattle.lsp_session.specs.declared.endings.Exit.{Exit}
 use Rattle.lsp_session.specs.declared.endings.Ending.{Ending}
 use Rattle.lsp_session.specs.declared.endings.Ending.TheVariants as ending
 use Rattle.lsp_session.specs.Rules.{Step, Rules, said}
-use Rattle.lsp_session.specs.Run.{Progress, Going, Gone, Strange, unless_exit, after_step, at_end, each_heard, fault_bytes, is_due, most_asked, brought, play, played, stopped, Outcome, outcome, run_from, run}
+use Rattle.lsp_session.specs.Run.{Progress, Going, Gone, Strange, unless_exit, after_step, at_end, each_heard, fault_bytes, is_due, brought, play, played, stopped, Outcome, outcome, run_from, run}
 use Rattle.lsp_session.specs.Serves.{WholeFrom, FrontFrom, IsWhole, IsFront, ServesFrom, Serves}
 use Rattle.lsp_session.specs.declared.endings.Halt.{Halt}
 
@@ -142,8 +142,10 @@ unfolding told_in retold
 runs {S = S} rules paced start polls end state told now ran = by (played rules paced (Going start [] 0 (Some [])) polls) refl (keeps_played rules paced (Going start [] 0 (Some [])) polls tt) lifted where
   begun : Going start [] 0 told ≡ lift told (Going start [] 0 (Some []))
   begun = ap (λ t. Going start [] 0 t) (sym (appended-nil told))
+
   lifted : stopped (lift told (played rules paced (Going start [] 0 (Some [])) polls)) ≡ Some (outcome end state now)
   lifted = ap stopped (sym (ap (λ p. played rules paced p polls) begun ∙ lift_played rules paced told (Going start [] 0 (Some [])) polls)) ∙ ran
+
   by : (p : Progress S) → played rules paced (Going start [] 0 (Some [])) polls ≡ p → Keeps p → stopped (lift told p) ≡ Some (outcome end state now) → Runs rules paced start polls end state told now
   by (Going s pending taken None) is keeps h = absurd keeps
   by (Going s pending taken (Some bytes)) is keeps h = record { bytes = bytes; wrote = sym (ap told_in h); ran = ap stopped is ∙ ap (retold bytes) h }
@@ -178,12 +180,16 @@ front_told {S = S} rules paced start bytes now old new h = record {
 } where
   held : Runs rules paced start h.earlier h.held.ending h.held.state (Some bytes) h.held.told
   held = runs rules paced start h.earlier h.held.ending h.held.state (Some bytes) h.held.told h.before
+
   full : Runs rules paced start (h.earlier ++ h.last ∷ []) h.full.ending h.full.state (Some bytes) h.full.told
   full = runs rules paced start (h.earlier ++ h.last ∷ []) h.full.ending h.full.state (Some bytes) h.full.told h.ran
+
   wrote : now ≡ Some (bytes ++ (held.bytes ++ h.holds.more))
   wrote = h.holds.grown ∙ ap (λ t. appended t h.holds.more) held.wrote ∙ ap Some (append_assoc bytes held.bytes h.holds.more)
+
   same : Some (bytes ++ full.bytes) ≡ Some (bytes ++ ((held.bytes ++ h.holds.more) ++ h.front.more))
   same = sym full.wrote ∙ h.front.grown ∙ ap (λ t. appended t h.front.more) wrote ∙ ap Some (append_assoc bytes (held.bytes ++ h.holds.more) h.front.more)
+
   parts : full.bytes ≡ (held.bytes ++ h.holds.more) ++ h.front.more
   parts = append_cancel_left bytes full.bytes ((held.bytes ++ h.holds.more) ++ h.front.more) (some_same _ _ same)
 

@@ -1,5 +1,5 @@
 -- Polls, and what they bring.
-use Rattle.std.proofs.Common.{◌≡◌, ℕ, ◌+◌, ◌<◌, ◌≤◌, ◌||◌, Bool, true, false, nat_le, nat_lt, Option, None, Some, Result, Ok, Err, List, [], ◌∷◌, ◌++◌, length, take, refl, sym, ◌∙◌, ap, subst, arith}
+use Rattle.std.proofs.Common.{◌≡◌, ℕ, ◌+◌, ◌<◌, ◌≤◌, ◌||◌, Bool, true, false, nat_le, nat_lt, Option, None, Some, Ok, Err, List, [], ◌∷◌, ◌++◌, length, take, refl, ◌∙◌, ap, subst, arith}
 use Rattle.std.proofs.lemmas.Bool.Decides.{nat_tests}
 use Rattle.std.proofs.lemmas.List.{length-take-le}
 use Rattle.base_core.specs.Link.{Seen, Bytes, Nothing, Poll, poll, polled}
@@ -7,17 +7,16 @@ use Rattle.base_core.specs.Sink.{appended, Begins}
 use Rattle.rpc_frames.specs.Frames as spec
 use Rattle.lsp_types.specs.Decoding.{decoded}
 use Rattle.lsp_session.specs.declared.endings.Exit.{Exit}
-use Rattle.lsp_session.specs.declared.endings.Ending.TheVariants as ending
 use Rattle.lsp_session.specs.declared.endings.Halt.{Halt}
 use Rattle.lsp_session.specs.declared.messages.Drained.{Drained}
 use Rattle.lsp_session.specs.declared.messages.Drained.TheVariants as drained
 use Rattle.lsp_session.specs.declared.endings.Ending.{Ending}
 use Rattle.lsp_session.specs.declared.turns.Turn.{Turn}
 use Rattle.lsp_session.specs.declared.turns.Turn.TheVariants as turn
-use Rattle.lsp_session.specs.Rules.{Step, Rules, said}
-use Rattle.lsp_session.specs.Run.{Progress, Going, Gone, Strange, unless_exit, after_step, at_end, each_heard, all_heard, agrees, is_due, most_asked, byte_limit, brought, play}
-use Rattle.lsp_session.specs.Calls.{Extends, told_at, IsCut, Does, Drains, Turns, after_bytes, after_idle, IsRun, OnePoll}
-use Rattle.lsp_session.proofs.Heard.{extends_none, step_cut, step_on, step_exit}
+use Rattle.lsp_session.specs.Rules.{Rules, said}
+use Rattle.lsp_session.specs.Run.{Progress, Going, Gone, unless_exit, after_step, at_end, each_heard, all_heard, agrees, most_asked, byte_limit, brought, play}
+use Rattle.lsp_session.specs.Calls.{IsCut, Drains, Turns, after_bytes, IsRun, OnePoll}
+use Rattle.lsp_session.proofs.Heard.{extends_none, step_cut}
 
 agrees_same : (b : Bool) → agrees b b ≡ true
 agrees_same true = refl

@@ -1,11 +1,10 @@
 -- What the calls of a session's loop do.
-use Rattle.std.specs.Prelude.{◌≡◌, ℕ, ◌+◌, ◌-◌, ◌*◌, ◌⊎◌, Bool, Option, None, Some, Result, Ok, Err, List, [], ◌∷◌, ◌++◌}
+use Rattle.std.specs.Prelude.{◌≡◌, ℕ, ◌+◌, ◌-◌, ◌*◌, ◌⊎◌, Bool, Option, None, Some, Result, Ok, Err, List}
 use Rattle.std.specs.List.{flat_map}
 use Rattle.rpc_frames.specs.Frames.{framed}
-use Rattle.base_core.specs.Link.{Fault, Poll, poll, polled}
+use Rattle.base_core.specs.Link.{Poll, polled}
 use Rattle.base_core.specs.Sink.{appended, Begins}
 use Rattle.lsp_session.specs.declared.endings.Exit.{Exit}
-use Rattle.lsp_session.specs.declared.endings.Ending.{Ending}
 use Rattle.lsp_session.specs.declared.endings.Ending.TheVariants as ending
 use Rattle.lsp_session.specs.declared.endings.Halt.{Halt}
 use Rattle.lsp_session.specs.declared.messages.Drained.{Drained}

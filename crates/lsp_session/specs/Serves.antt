@@ -6,7 +6,7 @@ use Rattle.base_core.specs.Sink.{appended}
 use Rattle.lsp_session.specs.declared.endings.Ending.{Ending}
 use Rattle.lsp_session.specs.declared.endings.Halt.{Halt}
 use Rattle.lsp_session.specs.Rules.{Rules}
-use Rattle.lsp_session.specs.Run.{Progress, Going, played, Outcome, outcome, stopped, run_from, run}
+use Rattle.lsp_session.specs.Run.{Progress, played, Outcome, outcome, run_from, run}
 use Rattle.lsp_session.specs.Calls.{Extends}
 use Rattle.lsp_session.specs.Status.{status_of}
 

@@ -66,7 +66,11 @@ pub trait Machine {
     ghost left: { Self → ℕ };
 
     /// The step of a message. It adds no more idle steps than a text has bytes at most.
-    fn hear(&mut self, alloc: Global, message: Result<Incoming, DecodeFault>) -> Result<Written, NoMem>
+    fn hear(
+        &mut self,
+        alloc: Global,
+        message: Result<Incoming, DecodeFault>,
+    ) -> Result<Written, NoMem>
         ensures step { Makes (rules.heard (plain self.old) message) result (plain self.new) }
         ensures few { OnOk result (left self.new ≤ left self.old + 1048576) };
 

@@ -26,7 +26,16 @@ fn take_turns<L: Link, S: Sink, M: Machine>(
     let mut piece = [0u8; PIECE];
     while taken < BYTE_LIMIT {
         let buf = &mut piece[..most_asked(taken)];
-        match take_turn(alloc, link, out, paced, machine, &mut reader, &mut taken, buf) {
+        match take_turn(
+            alloc,
+            link,
+            out,
+            paced,
+            machine,
+            &mut reader,
+            &mut taken,
+            buf,
+        ) {
             Ok(Turn::On) => {}
             Ok(Turn::Over(ending)) => return Ok(ending),
             Ok(Turn::Failed) => return Ok(Ending::LinkFailed),

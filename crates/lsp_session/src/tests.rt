@@ -37,16 +37,24 @@ impl Machine for Counter {
     ghost plain = { λ s. s.left };
 
     ghost rules = { record {
-        heard = λ left message. if (elim message [ Ok (incoming.Note note.Exit) ↦ true | _ ↦ false ]) then record { state = left; bodies = []; exit = Some (if left == 0 then Clean else Early) } else record { state = 2; bodies = (123 ∷ 125 ∷ []) ∷ []; exit = None };
-        idle = λ left. record { state = left - 1; bodies = (45 ∷ []) ∷ []; exit = None };
-        is_ended = λ left. left == 0;
+      heard = λ left message. if (elim message [ Ok (incoming.Note note.Exit) ↦ true | _ ↦ false ]) then record { state = left; bodies = []; exit = Some (if left == 0 then Clean else Early) } else record { state = 2; bodies = (123 ∷ 125 ∷ []) ∷ []; exit = None };
+      idle = λ left. record { state = left - 1; bodies = (45 ∷ []) ∷ []; exit = None };
+      is_ended = λ left. left == 0;
     } };
 
     ghost left = { λ s. s.left };
 
-    fn hear(&mut self, alloc: Global, message: Result<Incoming, DecodeFault>) -> Result<Written, NoMem> {
+    fn hear(
+        &mut self,
+        alloc: Global,
+        message: Result<Incoming, DecodeFault>,
+    ) -> Result<Written, NoMem> {
         if is_exit(&message) {
-            let exit = if self.left == 0 { Exit::Clean } else { Exit::Early };
+            let exit = if self.left == 0 {
+                Exit::Clean
+            } else {
+                Exit::Early
+            };
             let bodies = BytesList::new(alloc);
             return Ok(Written {
                 bodies,
@@ -68,10 +76,15 @@ impl Machine for Counter {
 }
 
 const NOTE: &str = "Content-Length: 30\r\n\r\n{\"jsonrpc\":\"2.0\",\"method\":\"x\"}";
+
 const EXIT: &str = "Content-Length: 33\r\n\r\n{\"jsonrpc\":\"2.0\",\"method\":\"exit\"}";
+
 const HEARD: &str = "Content-Length: 2\r\n\r\n{}";
+
 const WAITED: &str = "Content-Length: 1\r\n\r\n-";
-const FAULT: &str = "Content-Length: 75\r\n\r\n{\"error\":{\"code\":-32700,\"message\":\"parse error\"},\"id\":null,\"jsonrpc\":\"2.0\"}";
+
+const FAULT: &str =
+    "Content-Length: 75\r\n\r\n{\"error\":{\"code\":-32700,\"message\":\"parse error\"},\"id\":null,\"jsonrpc\":\"2.0\"}";
 
 /// What a link gives, by words: `idle`, `fail`, and else bytes, whole or each in a piece of its own.
 fn script(alloc: Global, words: &[&str], cut: bool) -> Result<ItemList, NoMem> {
@@ -123,13 +136,33 @@ const ROWS: [Row; 14] = [
     (&["fail"], false, 3, &[]),
     (&[], false, 6, &[]),
     (&[NOTE, "fail", NOTE], true, 3, &[HEARD]),
-    (&[NOTE, "idle", "idle", "idle"], false, 6, &[HEARD, WAITED, WAITED]),
-    (&[NOTE, "idle", NOTE, "idle", "idle"], false, 6, &[HEARD, WAITED, HEARD, WAITED, WAITED]),
+    (
+        &[NOTE, "idle", "idle", "idle"],
+        false,
+        6,
+        &[HEARD, WAITED, WAITED],
+    ),
+    (
+        &[NOTE, "idle", NOTE, "idle", "idle"],
+        false,
+        6,
+        &[HEARD, WAITED, HEARD, WAITED, WAITED],
+    ),
     (&[NOTE, "idle", "idle"], true, 6, &[HEARD]),
     (&[EXIT, NOTE], false, 0, &[]),
     (&[NOTE, EXIT, NOTE], false, 1, &[HEARD]),
-    (&[NOTE, "idle", "idle", EXIT], false, 0, &[HEARD, WAITED, WAITED]),
-    (&[NOTE, NOTE, "x\r\n", NOTE], true, 7, &[HEARD, HEARD, FAULT]),
+    (
+        &[NOTE, "idle", "idle", EXIT],
+        false,
+        0,
+        &[HEARD, WAITED, WAITED],
+    ),
+    (
+        &[NOTE, NOTE, "x\r\n", NOTE],
+        true,
+        7,
+        &[HEARD, HEARD, FAULT],
+    ),
     (&["Content-Length: 2\r\n\r\n[]"], true, 6, &[HEARD]),
     (&["Content-Length: 9\r\n"], true, 6, &[]),
     (&["", NOTE, ""], true, 6, &[HEARD]),
@@ -157,7 +190,10 @@ fn messages_in_one_piece(rt: HostRuntime) -> Result<(), Fail> {
     items.push(Item::Piece(Bytes::from_vec(bytes)))?;
     let got = outcome(alloc, items, false, 10, (1000, 0))?;
     assert_eq!(rt; got.0, 1);
-    assert_eq!(rt; got.1.as_slice(), joined(alloc, &[HEARD, HEARD])?.as_slice());
+    assert_eq!(rt;
+        got.1.as_slice(),
+        joined(alloc, &[HEARD, HEARD])?.as_slice()
+    );
     Ok(())
 }
 
@@ -167,9 +203,19 @@ fn what_fails_leaves_a_first_part(rt: HostRuntime) -> Result<(), Fail> {
     let words = [NOTE, "idle", "idle", NOTE, EXIT];
     let parts = [HEARD, WAITED, WAITED, HEARD];
     for count in 0..4u32 {
-        let got = outcome(alloc, script(alloc, &words, false)?, false, 1000, (1000, count + 1))?;
+        let got = outcome(
+            alloc,
+            script(alloc, &words, false)?,
+            false,
+            1000,
+            (1000, count + 1),
+        )?;
         assert_eq!(rt; got.0, 5, "at {count}");
-        assert_eq!(rt; got.1.as_slice(), joined(alloc, &parts[..count as usize])?.as_slice(), "at {count}");
+        assert_eq!(rt;
+            got.1.as_slice(),
+            joined(alloc, &parts[..count as usize])?.as_slice(),
+            "at {count}"
+        );
     }
     let whole = joined(alloc, &parts)?;
     for room in 0..whole.len() {
@@ -179,6 +225,9 @@ fn what_fails_leaves_a_first_part(rt: HostRuntime) -> Result<(), Fail> {
     }
     let got = outcome(alloc, script(alloc, &words, false)?, false, 2, (1000, 0))?;
     assert_eq!(rt; got.0, 3);
-    assert_eq!(rt; got.1.as_slice(), joined(alloc, &[HEARD, WAITED])?.as_slice());
+    assert_eq!(rt;
+        got.1.as_slice(),
+        joined(alloc, &[HEARD, WAITED])?.as_slice()
+    );
     Ok(())
 }

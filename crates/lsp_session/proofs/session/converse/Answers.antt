@@ -1,4 +1,3 @@
-use Rattle.std.proofs.Common.{Ok, Err}
 use Rattle.lsp_session.proofs.Told.{serves_told}
 use Rattle.lsp_session.proofs.session.converse.Goals as goal
 

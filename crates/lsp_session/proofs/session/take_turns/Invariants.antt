@@ -1,4 +1,4 @@
-use Rattle.std.proofs.Common.{◌≡◌, ◌≤◌, ◌-◌, ℕ, length, []}
+use Rattle.std.proofs.Common.{◌≤◌, length, []}
 use Rattle.lsp_session.specs.Run.{Going, byte_limit}
 use Rattle.lsp_session.specs.Calls.{weight}
 use Rattle.lsp_session.specs.Serves.{Plays}

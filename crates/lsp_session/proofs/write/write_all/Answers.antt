@@ -1,5 +1,4 @@
-use Rattle.std.proofs.Common.{◌≡◌, ◌-◌, length, length-drop, take, drop, refl, ap, ◌∙◌, arith}
-use Rattle.std.proofs.lemmas.Grind.{common_steps}
+use Rattle.std.proofs.Common.{length, length-drop, take, refl, ap, ◌∙◌, arith}
 use Rattle.base_core.specs.Sink.{appended}
 use Rattle.lsp_session.proofs.Pieces.{begins_take, took_more, shown_rest, rose_later}
 use Rattle.lsp_session.proofs.write.write_all.Goals as goal
