@@ -5,13 +5,12 @@ use Rattle.base_core.proofs.Begun.{appended-appended, appended-nil}
 use Rattle.rpc_frames.specs.Frames as spec
 use Rattle.lsp_types.specs.Decoding.{decoded}
 use Rattle.lsp_session.specs.declared.endings.Exit.{Exit}
-use Rattle.lsp_session.specs.declared.endings.Ending.TheVariants as ending
 use Rattle.lsp_session.specs.declared.endings.Halt.{Halt}
 use Rattle.lsp_session.specs.declared.messages.Drained.{Drained}
 use Rattle.lsp_session.specs.declared.messages.Drained.TheVariants as drained
 use Rattle.lsp_session.specs.Rules.{Step, Rules, said}
-use Rattle.lsp_session.specs.Run.{Progress, Gone, unless_exit, after_step, at_end, each_heard, all_heard, fault_bytes}
-use Rattle.lsp_session.specs.Calls.{Extends, told_at, IsCut, Does, Drains, Goes}
+use Rattle.lsp_session.specs.Run.{Progress, unless_exit, after_step, at_end, each_heard, all_heard, fault_bytes}
+use Rattle.lsp_session.specs.Calls.{Extends, told_at, IsCut, Drains, Goes}
 
 pub extends_none : (told : Option (List ℕ)) → Extends told told
 extends_none told = record { more = []; grown = sym (appended-nil told) }
@@ -56,27 +55,9 @@ step_cut step told now rest go h = record {
   front = extends_on _ _ _ (extends_left told now (said step) h) (exit_extends step.exit step.state (appended told (said step)) rest go);
 }
 
--- a step after which the run goes on
-pub step_on : {S : Type 0} (step : Step S) (s : S) (told now : Option (List ℕ)) (rest : S → Option (List ℕ) → Progress S) → Does step (Ok None) s told now → rest s now ≡ after_step step told rest
-step_on step s told now rest h = rw (h.1, h.2, ← h.0) refl
-
-pub step_exit : {S : Type 0} (step : Step S) (exit : Exit) (s : S) (told now : Option (List ℕ)) (rest : S → Option (List ℕ) → Progress S) → Does step (Ok (Some exit)) s told now → after_step step told rest ≡ Gone (ending.Exit exit) s now
-step_exit step exit s told now rest h = rw (h.1, h.2, ← h.0) refl
-
 -- the rest of the bytes, heard
 abbrev pub left_of : {S : Type 0} → Rules S → ℕ → S → List ℕ → Option (List ℕ) → Progress S
 left_of rules taken s p t = all_heard rules taken (spec.frames p) s t
-
--- one message was there
-pub goes_on : {S : Type 0} (rules : Rules S) (taken : ℕ) (old new body : List ℕ) (s s' : S) (told now : Option (List ℕ)) → spec.frames old ≡ spec.with_body body (spec.frames new) → Does (rules.heard s (decoded body)) (Ok None) s' told now → Goes (left_of rules taken) taken (all_heard rules taken (spec.frames old) s told) (Ok None) s' new told now
-goes_on rules taken old new body s s' told now e h = (
-  step_on (rules.heard s (decoded body)) s' told now (λ s t. each_heard rules taken (spec.frames new).end (spec.frames new).bodies s t) h ∙ ap (λ stream. all_heard rules taken stream s told) (sym e),
-  record { more = said (rules.heard s (decoded body)); grown = h.2 },
-)
-
-pub goes_exit : {S : Type 0} (rules : Rules S) (taken : ℕ) (old new body : List ℕ) (exit : Exit) (s s' : S) (told now : Option (List ℕ)) → spec.frames old ≡ spec.with_body body (spec.frames new) → Does (rules.heard s (decoded body)) (Ok (Some exit)) s' told now → all_heard rules taken (spec.frames old) s told ≡ Gone (ending.Exit exit) s' now
-goes_exit rules taken old new body exit s s' told now e h =
-    ap (λ stream. all_heard rules taken stream s told) e ∙ step_exit (rules.heard s (decoded body)) exit s' told now (λ s t. each_heard rules taken (spec.frames new).end (spec.frames new).bodies s t) h
 
 pub goes_cut : {S : Type 0} (rules : Rules S) (taken : ℕ) (old new body shown : List ℕ) (s : S) (told now : Option (List ℕ)) → spec.frames old ≡ spec.with_body body (spec.frames new) → shown ≡ body → Begins told now (said (rules.heard s (decoded shown))) → IsCut (all_heard rules taken (spec.frames old) s told) told now
 goes_cut rules taken old new body shown s told now e same h =
@@ -86,13 +67,6 @@ goes_cut rules taken old new body shown s told now e same h =
 -- nothing was written yet
 pub cut_before : {S : Type 0} (rules : Rules S) (taken : ℕ) (bytes : List ℕ) (s : S) (told : Option (List ℕ)) → IsCut (all_heard rules taken (spec.frames bytes) s told) told told
 cut_before rules taken bytes s told = record { holds = extends_none told; front = heard_extends rules taken (spec.frames bytes).end (spec.frames bytes).bodies s told }
-
--- a frame fault's refusal is broken off
-pub fault_cut : {S : Type 0} (rules : Rules S) (taken : ℕ) (bytes : List ℕ) (end : spec.End) (s : S) (told now : Option (List ℕ)) → spec.frames bytes ≡ spec.ended end → Begins told now fault_bytes → (told_at (at_end taken end s told) ≡ appended told fault_bytes) → IsCut (all_heard rules taken (spec.frames bytes) s told) told now
-fault_cut rules taken bytes end s told now e h is = rw e (record {
-  holds = extends_begun told now fault_bytes h;
-  front = rw is (extends_left told now fault_bytes h);
-})
 
 -- from an earlier point of the same bytes
 pub drains_from : {S : Type 0} (taken : ℕ) (whole whole' : Progress S) (result : Result Drained Halt) (s : S) (pending : List ℕ) (told mid now : Option (List ℕ)) → whole' ≡ whole → Extends told mid → Drains taken whole' result s pending mid now → Drains taken whole result s pending told now

@@ -1,5 +1,5 @@
 -- The polls of a call, one after another.
-use Rattle.std.proofs.Common.{◌≡◌, ℕ, ◌<◌, ◌≤◌, inl, inr, Bool, true, false, nat_lt, Option, None, Some, List, [], ◌∷◌, ◌++◌, refl, sym, ◌∙◌, ap, append_assoc, append-nil, arith, if◌then◌else◌}
+use Rattle.std.proofs.Common.{◌≡◌, ℕ, ◌<◌, inl, inr, Bool, true, nat_lt, Option, None, Some, List, [], ◌∷◌, ◌++◌, refl, sym, ◌∙◌, ap, append_assoc, append-nil, arith, if◌then◌else◌}
 use Rattle.std.proofs.lemmas.Bool.Decides.{nat_tests}
 use Rattle.base_core.specs.Link.{Poll, polled}
 use Rattle.lsp_session.specs.declared.endings.Ending.{Ending}
@@ -21,9 +21,6 @@ played_next : {S : Type 0} (rules : Rules S) (paced : Bool) (start : Progress S)
 played_next rules paced start [] one = refl
 played_next rules paced start (first ∷ polls) one = played_next rules paced (play rules paced start first) polls one
 
-pub plays_none : {S : Type 0} (rules : Rules S) (paced : Bool) (start : Progress S) (old : Option (List Poll)) → Plays rules paced start start old old
-plays_none rules paced start old = record { polls = []; grown = polled_none old; plays = refl }
-
 -- one poll further
 pub plays_next : {S : Type 0} (rules : Rules S) (paced : Bool) (start mid end : Progress S) (old now new : Option (List Poll)) → Plays rules paced start mid old now → OnePoll rules paced mid end now new → Plays rules paced start end old new
 plays_next rules paced start mid end old now new h k = record {
@@ -41,10 +38,6 @@ stopped_on state pending taken told few =
     let below : nat_lt taken byte_limit ≡ true = grind (arith, nat_tests) in
     rw below refl
 
--- the link gave no more
-pub whole_lost : {S : Type 0} (rules : Rules S) (paced : Bool) (first state : S) (pending : List ℕ) (taken : ℕ) (told now : Option (List ℕ)) (old new : Option (List Poll)) → taken < byte_limit → Plays rules paced (Going first [] 0 told) (Going state pending taken now) old new → WholeFrom rules paced first ending.LinkFailed state told now old new
-whole_lost rules paced first state pending taken told now old new few h = record { polls = h.polls; grown = h.grown; ran = ap stopped h.plays ∙ stopped_on state pending taken now few }
-
 abbrev lost_at : {S : Type 0} → Progress S → Option (Outcome S)
 lost_at (Going state pending taken told) = Some (outcome ending.LinkFailed state told)
 lost_at (Gone end state told) = None
@@ -56,13 +49,6 @@ whole_failed rules paced first state state' pending pending' taken taken' told m
   by : Fails rules paced (Going state pending taken mid) state' now here new → WholeFrom rules paced first ending.LinkFailed state' told now old new
   by (inl e) = record { polls = h.polls; grown = e ∙ h.grown; ran = ap stopped h.plays ∙ stopped_on state pending taken mid few ∙ ap lost_at same }
   by (inr k) = whole_gone rules paced first state' ending.LinkFailed told now old new (plays_next rules paced (Going first [] 0 told) (Going state pending taken mid) (Gone ending.LinkFailed state' now) old here new h k)
-
--- as many bytes were taken as may be
-pub whole_full : {S : Type 0} (rules : Rules S) (paced : Bool) (first state : S) (pending : List ℕ) (taken : ℕ) (told now : Option (List ℕ)) (old new : Option (List Poll)) → byte_limit ≤ taken → Plays rules paced (Going first [] 0 told) (Going state pending taken now) old new → WholeFrom rules paced first ending.TakenLimit state told now old new
-whole_full rules paced first state pending taken told now old new full h =
-    let above : nat_lt taken byte_limit ≡ false = grind (arith, nat_tests) in
-    let ends : stopped (Going state pending taken now) ≡ Some (outcome ending.TakenLimit state now) = rw above refl in
-    record { polls = h.polls; grown = h.grown; ran = ap stopped h.plays ∙ ends }
 
 -- what the last poll brought was broken off
 pub front_broken : {S : Type 0} (rules : Rules S) (paced : Bool) (first state : S) (pending : List ℕ) (taken : ℕ) (told mid now : Option (List ℕ)) (old here new : Option (List Poll)) → taken < byte_limit → Plays rules paced (Going first [] 0 told) (Going state pending taken mid) old here → IsBroken rules paced (Going state pending taken mid) mid now here new → FrontFrom rules paced first told now old new

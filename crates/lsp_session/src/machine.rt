@@ -7,6 +7,7 @@ use lsp_types::{DecodeFault, Incoming};
 use std::alloc::Global;
 use std::marker::Model;
 
+/// Bodies of messages, in order.
 #[derive(Debug, Drop)]
 pub struct BytesList {
     items: Vec<Bytes>,

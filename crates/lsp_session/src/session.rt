@@ -10,6 +10,7 @@ use base_core::{Link, Sink};
 use rpc_frames::Frames;
 use std::alloc::Global;
 
+/// One turn after another, until one ends the session or as many bytes came as it takes.
 fn take_turns<L: Link, S: Sink, M: Machine>(
     alloc: Global,
     link: &mut L,
@@ -45,6 +46,7 @@ fn take_turns<L: Link, S: Sink, M: Machine>(
     Ok(Ending::TakenLimit)
 }
 
+/// The same, by the bytes that were written in this call.
 fn converse<L: Link, S: Sink, M: Machine>(
     alloc: Global,
     link: &mut L,
