@@ -54,18 +54,22 @@ Goes left taken whole (Ok None) state pending old new = (left state pending new 
 Goes left taken whole (Ok (Some last)) state pending old new = Drains taken whole (Ok last) state pending old new
 Goes left taken whole (Err halt) state pending old new = IsCut whole old new
 
--- how much can still be done
+-- how much the bytes held can still bring: each message takes a byte at least, and adds 1,048,576 idle steps
+-- at most
 abbrev pub weight_held : ℕ → ℕ → ℕ
 weight_held held left = held * 1048577 + left
 
+-- how much can still be done: each byte not yet taken counts one more than a byte held
 abbrev pub weight : ℕ → ℕ → ℕ → ℕ
 weight taken held left = (byte_limit - taken) * 1048578 + weight_held held left
 
+-- how a turn ends by what became of the bytes that came
 abbrev pub after_bytes : Drained → Turn
 after_bytes drained.Rest = turn.On
 after_bytes (drained.Exit exit) = turn.Over (ending.Exit exit)
 after_bytes drained.Fault = turn.Over ending.FrameFault
 
+-- how a turn ends by what became of the idle step
 abbrev pub after_idle : Option Exit → Turn
 after_idle None = turn.On
 after_idle (Some exit) = turn.Over (ending.Exit exit)
@@ -80,6 +84,7 @@ pub record OnePoll {S : Type 0} (rules : Rules S) (paced : Bool) (start end : Pr
 abbrev pub Fails : {S : Type 0} → Rules S → Bool → Progress S → S → Option (List ℕ) → Option (List Poll) → Option (List Poll) → Type 0
 Fails rules paced start state told old new = (new ≡ old) ⊎ OnePoll rules paced start (Gone ending.LinkFailed state told) old new
 
+-- no poll came that no session makes
 abbrev pub IsRun : {S : Type 0} → Progress S → Type 0
 IsRun (Going state pending taken told) = Unit {0}
 IsRun (Gone end state told) = Unit {0}

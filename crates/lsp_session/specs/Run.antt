@@ -51,6 +51,7 @@ each_heard rules taken end (body ∷ bodies) state told =
 abbrev pub all_heard : {S : Type 0} → Rules S → ℕ → spec.Stream → S → Option (List ℕ) → Progress S
 all_heard rules taken stream state told = each_heard rules taken stream.end stream.bodies state told
 
+-- two flags are the same
 abbrev pub agrees : Bool → Bool → Bool
 agrees true flag = flag
 agrees false flag = not flag
@@ -92,6 +93,7 @@ pub record Outcome (S : Type 0) : Type 0 where
   pub state : S
   pub told : Option (List ℕ)
 
+-- an outcome of these parts
 abbrev pub outcome : {S : Type 0} → Ending → S → Option (List ℕ) → Outcome S
 outcome end state told = record { ending = end; state = state; told = told }
 

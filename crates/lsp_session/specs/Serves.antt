@@ -40,6 +40,7 @@ pub record FrontFrom {S : Type 0} (rules : Rules S) (paced : Bool) (start : S) (
   pub holds : Extends held.told now
   pub front : Extends now full.told
 
+-- a session that ends, or is broken off
 abbrev pub ServesFrom : {S : Type 0} → Rules S → Bool → S → Result Ending Halt → S → Option (List ℕ) → Option (List ℕ) → Option (List Poll) → Option (List Poll) → Type 0
 ServesFrom rules paced start (Ok end) state told now old new = WholeFrom rules paced start end state told now old new
 ServesFrom rules paced start (Err halt) state told now old new = FrontFrom rules paced start told now old new

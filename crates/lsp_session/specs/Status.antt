@@ -6,6 +6,7 @@ use Rattle.lsp_session.specs.declared.endings.Ending.TheVariants.{Exit, LinkFail
 use Rattle.lsp_session.specs.declared.endings.Halt.{Halt}
 use Rattle.lsp_session.specs.declared.endings.Halt.TheVariants.{NoMem, SinkFailed}
 
+-- the status of each ending
 abbrev pub status_of : Ending → ℕ
 status_of (Exit Clean) = 0
 status_of (Exit Early) = 1
