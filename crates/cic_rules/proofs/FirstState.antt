@@ -1,0 +1,173 @@
+-- The ten sentences of the first state as declarations, and what they give, proved by computation.
+use Rattle.std.specs.Prelude.{◌≡◌, ℕ, List, [], ◌∷◌, length, Bool, true, false, Some, Result, Ok, Err, refl}
+use Rattle.base_core.specs.declared.refusals.Stop.{Stop}
+use Rattle.core_term.specs.declared.sorts.Sort.TheVariants.{PropSort, SetSort, TypeSort}
+use Rattle.core_term.specs.Tree.{Tree, Variable, Universe, Const, Product, Lambda, Apply}
+use Rattle.cic_rules.specs.declared.context.Hyp.{Hyp}
+use Rattle.cic_rules.specs.declared.decls.Decl.{Decl}
+use Rattle.cic_rules.specs.declared.decls.Decl.TheVariants.{Define, Induct}
+use Rattle.cic_rules.specs.declared.decls.Ctor.{Ctor}
+use Rattle.cic_rules.specs.declared.env.Slot.{Slot}
+use Rattle.cic_rules.specs.declared.judge.Mode.TheVariants.{Same}
+use Rattle.cic_rules.specs.Contexts.{plain_hyp}
+use Rattle.cic_rules.specs.Environments.{type_of_global}
+use Rattle.cic_rules.specs.Runs.{Ran, refused, done, then_do, repeat}
+use Rattle.cic_rules.specs.Reduce.{whnf_at}
+use Rattle.cic_rules.specs.Convert.{conv_at, blocker_at}
+use Rattle.cic_rules.specs.Infer.{infer_at}
+use Rattle.cic_rules.specs.Inductive.{row_at}
+use Rattle.cic_rules.specs.Declare.{declare_at}
+use Rattle.cic_rules.specs.Rows.{apply_all}
+
+-- declarations one after the other
+abbrev declare_all : List Decl → List Slot → ℕ → Ran (List Slot)
+declare_all [] env left = done env left
+declare_all (d ∷ ds) env left = then_do (declare_at env 2000 d left) (declare_all ds)
+
+abbrev PROP : Tree
+PROP = Universe PropSort
+
+abbrev TYPE : Tree
+TYPE = Universe (TypeSort 1)
+
+-- the name `_`
+abbrev ANY : List ℕ
+ANY = 95 ∷ []
+
+abbrev arrow : Tree → Tree → Tree
+arrow a b = Product ANY a b
+
+abbrev inductive : List ℕ → List Hyp → Tree → List Ctor → Decl
+inductive name params arity ctors = Induct (record { name = name; params = params; arity = arity; ctors = ctors })
+
+abbrev ctor : List ℕ → Tree → Ctor
+ctor name ty = record { name = name; ty = ty }
+
+abbrev apply2 : Tree → Tree → Tree → Tree
+apply2 f a b = Apply (Apply f a) b
+
+abbrev NAT : Tree
+NAT = Const 33
+
+abbrev O : Tree
+O = Const 34
+
+abbrev S : Tree
+S = Const 35
+
+abbrev NAT_REC : Tree
+NAT_REC = Const 37
+
+abbrev PLUS : Tree
+PLUS = Const 39
+
+-- the first state's declarations
+abbrev pub PRELUDE : List Decl
+PRELUDE =
+    inductive (70 ∷ 97 ∷ 108 ∷ 115 ∷ 101 ∷ []) [] PROP []
+    ∷ inductive (84 ∷ 114 ∷ 117 ∷ 101 ∷ []) [] PROP (ctor (73 ∷ []) (Const 4) ∷ [])
+    ∷ inductive (97 ∷ 110 ∷ 100 ∷ []) (plain_hyp (65 ∷ []) PROP ∷ plain_hyp (66 ∷ []) PROP ∷ []) PROP
+    (ctor (99 ∷ 111 ∷ 110 ∷ 106 ∷ []) (arrow (Variable 1) (arrow (Variable 1) (apply2 (Const 9) (Variable 3) (Variable 2)))) ∷ [])
+    ∷ inductive (111 ∷ 114 ∷ []) (plain_hyp (65 ∷ []) PROP ∷ plain_hyp (66 ∷ []) PROP ∷ []) PROP
+    (ctor (111 ∷ 114 ∷ 95 ∷ 105 ∷ 110 ∷ 116 ∷ 114 ∷ 111 ∷ 108 ∷ []) (arrow (Variable 1) (apply2 (Const 14) (Variable 2) (Variable 1)))
+    ∷ ctor (111 ∷ 114 ∷ 95 ∷ 105 ∷ 110 ∷ 116 ∷ 114 ∷ 111 ∷ 114 ∷ []) (arrow (Variable 0) (apply2 (Const 14) (Variable 2) (Variable 1))) ∷ [])
+    ∷ Define (110 ∷ 111 ∷ 116 ∷ []) (Some (Product (65 ∷ []) PROP PROP)) (Lambda (65 ∷ []) PROP (arrow (Variable 0) (Const 0))) false
+    ∷ inductive (101 ∷ 113 ∷ []) (plain_hyp (65 ∷ []) TYPE ∷ plain_hyp (120 ∷ []) (Variable 0) ∷ []) (arrow (Variable 1) PROP)
+    (ctor (101 ∷ 113 ∷ 95 ∷ 114 ∷ 101 ∷ 102 ∷ 108 ∷ []) (Apply (apply2 (Const 19) (Variable 1) (Variable 0)) (Variable 0)) ∷ [])
+    ∷ inductive (101 ∷ 120 ∷ []) (plain_hyp (65 ∷ []) TYPE ∷ plain_hyp (80 ∷ []) (arrow (Variable 0) PROP) ∷ []) PROP
+    (ctor (101 ∷ 120 ∷ 95 ∷ 105 ∷ 110 ∷ 116 ∷ 114 ∷ 111 ∷ []) (Product (120 ∷ []) (Variable 1) (arrow (Apply (Variable 1) (Variable 0)) (apply2 (Const 24) (Variable 3) (Variable 2)))) ∷ [])
+    ∷ inductive (98 ∷ 111 ∷ 111 ∷ 108 ∷ []) [] (Universe SetSort) (ctor (116 ∷ 114 ∷ 117 ∷ 101 ∷ []) (Const 27) ∷ ctor (102 ∷ 97 ∷ 108 ∷ 115 ∷ 101 ∷ []) (Const 27) ∷ [])
+    ∷ inductive (110 ∷ 97 ∷ 116 ∷ []) [] (Universe SetSort) (ctor (79 ∷ []) NAT ∷ ctor (83 ∷ []) (arrow NAT NAT) ∷ [])
+    ∷ Define (112 ∷ 108 ∷ 117 ∷ 115 ∷ []) (Some (Product (110 ∷ []) NAT (Product (109 ∷ []) NAT NAT)))
+    (Lambda (110 ∷ []) NAT (Lambda (109 ∷ []) NAT
+    (apply_all NAT_REC (Lambda ANY NAT NAT ∷ Variable 0 ∷ Lambda ANY NAT (Lambda (114 ∷ []) NAT (Apply S (Variable 0))) ∷ Variable 1 ∷ [])))) false
+    ∷ []
+
+abbrev environment_of : Result (List Slot) Stop → List Slot
+environment_of (Ok env) = env
+environment_of (Err stop) = []
+
+-- the environment of the first state
+abbrev pub first_state : Ran (List Slot)
+first_state = declare_all PRELUDE [] 1000000
+
+-- 200 units and one for each of the ten sentences make its cost of 210
+prelude_units : first_state.left ≡ 999800
+unfolding repeat whnf_at conv_at blocker_at infer_at row_at
+prelude_units = refl
+
+prelude_length : length (environment_of first_state.answer) ≡ 40
+unfolding repeat whnf_at conv_at blocker_at infer_at row_at
+prelude_length = refl
+
+-- forall P : nat -> Prop, P O -> (forall n : nat, P n -> P (S n)) -> forall n : nat, P n
+nat_ind_type : type_of_global (environment_of first_state.answer) 36 ≡ Some (Product (80 ∷ []) (Product (110 ∷ []) NAT PROP)
+    (Product (102 ∷ 95 ∷ 79 ∷ []) (Apply (Variable 0) O)
+    (Product (102 ∷ 95 ∷ 83 ∷ []) (Product (110 ∷ []) NAT (Product (73 ∷ 72 ∷ 110 ∷ []) (Apply (Variable 2) (Variable 0)) (Apply (Variable 3) (Apply S (Variable 1)))))
+    (Product (110 ∷ []) NAT (Apply (Variable 3) (Variable 0))))))
+unfolding repeat whnf_at conv_at blocker_at infer_at row_at
+nat_ind_type = refl
+
+-- forall (A B P : Prop), (A -> B -> P) -> and A B -> P
+and_ind_type : type_of_global (environment_of first_state.answer) 11 ≡ Some (Product (65 ∷ []) PROP (Product (66 ∷ []) PROP (Product (80 ∷ []) PROP
+    (Product (102 ∷ 95 ∷ 99 ∷ 111 ∷ 110 ∷ 106 ∷ []) (Product (72 ∷ []) (Variable 2) (Product (72 ∷ 48 ∷ []) (Variable 2) (Variable 2)))
+    (Product (97 ∷ []) (apply2 (Const 9) (Variable 3) (Variable 2)) (Variable 2))))))
+unfolding repeat whnf_at conv_at blocker_at infer_at row_at
+and_ind_type = refl
+
+-- forall (A : Type) (x : A) (P : A -> Prop), P x -> forall x0 : A, eq A x x0 -> P x0, where the index has no name
+eq_ind_type : type_of_global (environment_of first_state.answer) 21 ≡ Some (Product (65 ∷ []) TYPE (Product (120 ∷ []) (Variable 0)
+    (Product (80 ∷ []) (arrow (Variable 1) PROP)
+    (Product (102 ∷ 95 ∷ 101 ∷ 113 ∷ 95 ∷ 114 ∷ 101 ∷ 102 ∷ 108 ∷ []) (Apply (Variable 0) (Variable 1))
+    (arrow (Variable 3) (Product (101 ∷ []) (Apply (apply2 (Const 19) (Variable 4) (Variable 3)) (Variable 0)) (Apply (Variable 3) (Variable 1))))))))
+unfolding repeat whnf_at conv_at blocker_at infer_at row_at
+eq_ind_type = refl
+
+abbrev answer_of : Ran Bool → Result Bool Stop
+answer_of r = r.answer
+
+-- 2 + 1 = 3
+two_and_one : answer_of (conv_at (environment_of first_state.answer) 2000 [] Same (apply2 PLUS (Apply S (Apply S O)) (Apply S O)) (Apply S (Apply S (Apply S O))) 1000000) ≡ Ok true
+unfolding repeat whnf_at conv_at blocker_at infer_at row_at
+two_and_one = refl
+
+abbrev SET : Tree
+SET = Universe SetSort
+
+-- an inductive type T, at place 40, whose only constructor c has this type
+abbrev one_constructor : Tree → Decl
+one_constructor ty = inductive (84 ∷ []) [] SET (ctor (99 ∷ []) ty ∷ [])
+
+-- its answer in the first state, where 100 units are left
+abbrev tried : Decl → Ran (List Slot)
+tried d = declare_at (environment_of first_state.answer) 2000 d 100
+
+-- two names are one: the type and its constructor
+refused_twice : tried (inductive (84 ∷ []) [] SET (ctor (84 ∷ []) (Const 40) ∷ [])) ≡ refused 34 100
+unfolding repeat whnf_at conv_at blocker_at infer_at row_at
+refused_twice = refl
+
+-- the name I is taken
+refused_taken : tried (inductive (84 ∷ []) [] SET (ctor (73 ∷ []) (Const 40) ∷ [])) ≡ refused 25 100
+unfolding repeat whnf_at conv_at blocker_at infer_at row_at
+refused_taken = refl
+
+-- the arity is no row of products that ends in a sort
+refused_arity : tried (inductive (84 ∷ []) [] NAT []) ≡ refused 30 100
+unfolding repeat whnf_at conv_at blocker_at infer_at row_at
+refused_arity = refl
+
+-- the constructor is one of nat
+refused_constructor : tried (one_constructor NAT) ≡ refused 31 98
+unfolding repeat whnf_at conv_at blocker_at infer_at row_at
+refused_constructor = refl
+
+-- (T -> nat) -> T
+refused_positivity : tried (one_constructor (arrow (arrow (Const 40) NAT) (Const 40))) ≡ refused 32 94
+unfolding repeat whnf_at conv_at blocker_at infer_at row_at
+refused_positivity = refl
+
+-- Set -> T
+refused_universe : tried (one_constructor (arrow SET (Const 40))) ≡ refused 33 96
+unfolding repeat whnf_at conv_at blocker_at infer_at row_at
+refused_universe = refl

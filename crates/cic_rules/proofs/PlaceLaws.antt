@@ -1,0 +1,81 @@
+-- An environment with one more global.
+use Rattle.std.specs.Ordering.{is_eq}
+use Rattle.std.proofs.Common.{◌≡◌, ℕ, suc, ◌+◌, ◌^◌, ◌<◌, cond, List, [], ◌∷◌, ◌++◌, length, Option, Some, None, refl, sym, ap, ◌∙◌, arith, length-append}
+use Rattle.std.specs.Prelude.{insert}
+use Rattle.std.specs.Cmp.Lexicographic.{slice_cmp, nat_list_cmp_total}
+use Rattle.std.specs.Ordering.{nat_cmp}
+use Rattle.core_term.specs.declared.sorts.Sort.{Sort}
+use Rattle.core_term.specs.Tree.{Tree, Universe}
+use Rattle.shared_map.specs.Entries.{look}
+use Rattle.shared_map.proofs.EntriesLaws.{look-put, look-last, in_order-put}
+use Rattle.cic_rules.specs.declared.decls.InductiveDecl.{InductiveDecl}
+use Rattle.cic_rules.specs.declared.entries.Entry.{Entry}
+use Rattle.cic_rules.specs.declared.entries.EntryKind.{EntryKind}
+use Rattle.cic_rules.specs.declared.entries.EntryKind.TheVariants.{Assumed, Admitted, Defined, Inductive, Constructor, Eliminator}
+use Rattle.cic_rules.specs.declared.env.Slot.{Slot}
+use Rattle.cic_rules.specs.Names.{rank_of}
+use Rattle.cic_rules.specs.Environments.{numbered, place_in, own_slot, slotted, globals_of_all, terms_of, AreAmong, Covers, IsOwn, IsNew, IsSlotAt, AreSlots, IsIndexed, MayEnter}
+use Rattle.cic_rules.proofs.IndexLaws.{insert_rank}
+
+numbered-last : (n : ℕ) (env : List Slot) (s : Slot) → numbered n (env ++ (s ∷ [])) ≡ numbered n env ++ ((s.entry.name, n + length env) ∷ [])
+numbered-last n [] s = let none : n ≡ n + 0 = omega arith in ap (λ m. (s.entry.name, m) ∷ []) none
+numbered-last n (e ∷ env) s =
+    let at : suc n + length env ≡ n + suc (length env) = omega arith in
+    ap (λ more. (e.entry.name, n) ∷ more) (numbered-last (suc n) env s ∙ ap (λ m. numbered (suc n) env ++ ((s.entry.name, m) ∷ [])) at)
+
+slots-last : (n : ℕ) (env : List Slot) (s : Slot) → AreSlots n env → IsSlotAt (n + length env) s → AreSlots n (env ++ (s ∷ []))
+slots-last n [] s all new = let none : n + 0 ≡ n = omega arith in (rw (← none) new, tt)
+slots-last n (e ∷ env) s all new =
+    let at : n + suc (length env) ≡ suc n + length env = omega arith in
+    (all.0, slots-last (suc n) env s all.1 (rw (← at) new))
+
+place_in-last : (env : List Slot) (s : Slot) (name : List ℕ) → place_in (env ++ (s ∷ [])) name ≡ look (slice_cmp nat_cmp) (numbered 0 env ++ ((s.entry.name, length env) ∷ [])) name
+place_in-last env s name =
+    let at : 0 + length env ≡ length env = omega arith in
+    ap (λ es. look (slice_cmp nat_cmp) es name) (numbered-last 0 env s ∙ ap (λ m. numbered 0 env ++ ((s.entry.name, m) ∷ [])) at)
+
+-- a global of a new name at the end of an environment, and in its index by its rank
+pub indexed_more : (env : List Slot) (index : List (List ℕ × ℕ)) (s : Slot) → IsIndexed env index → length env < 2 ^ 31 → IsNew env s.entry.name → IsSlotAt (length env) s → IsIndexed (env ++ (s ∷ [])) (insert index (rank_of (slice_cmp nat_cmp) index s.entry.name) (s.entry.name, length env))
+indexed_more env index s old room new slot =
+    let none : look (slice_cmp nat_cmp) index s.entry.name ≡ None = old.told s.entry.name ∙ new in
+    let at : 0 + length env ≡ length env = omega arith in
+    let made = insert_rank (slice_cmp nat_cmp) nat_list_cmp_total index (s.entry.name, length env) none in
+    record {
+      environment = record {
+        short = omega (arith, room, length-append env (s ∷ []));
+        slots = slots-last 0 env s old.environment.slots (rw at slot);
+      };
+      order = rw made (in_order-put (slice_cmp nat_cmp) nat_list_cmp_total index (s.entry.name, length env) old.order);
+      told = λ (name : List ℕ).
+          ap (λ es. look (slice_cmp nat_cmp) es name) made
+          ∙ look-put (slice_cmp nat_cmp) nat_list_cmp_total index s.entry.name (length env) name
+          ∙ ap (λ found. cond (is_eq (slice_cmp nat_cmp name s.entry.name)) (Some (length env)) found) (old.told name)
+          ∙ sym (place_in-last env s name ∙ look-last (slice_cmp nat_cmp) nat_list_cmp_total (numbered 0 env) s.entry.name (length env) new name);
+    }
+
+covers_own : (place : ℕ) (kind : EntryKind) (terms : List Tree) (used : List ℕ) → IsOwn kind → AreAmong used (globals_of_all terms) → Covers place kind None terms used
+covers_own place Assumed terms used own h = h
+covers_own place Admitted terms used own h = h
+covers_own place (Defined body opaque) terms used own h = h
+covers_own place (Inductive n) terms used own h = absurd own
+covers_own place (Constructor of index) terms used own h = absurd own
+covers_own place (Eliminator of sort) terms used own h = absurd own
+
+-- an entry that may be entered is a global at the next place
+pub own_slot_is : (env : List Slot) (e : Entry) → MayEnter env e → IsSlotAt (length env) (own_slot e)
+own_slot_is env e h = record { entry = h.entry; covers = covers_own (length env) e.kind (terms_of e) e.used h.own h.used }
+
+-- as many globals as entries
+pub length_slotted : (d : Option InductiveDecl) (entries : List Entry) → length (slotted d entries) ≡ length entries
+length_slotted d [] = refl
+length_slotted d (e ∷ es) = ap suc (length_slotted None es)
+
+-- an assumption of a sort, which uses nothing, may be entered under a new name
+pub may_assume : (env : List Slot) (e : Entry) (s : Sort) → IsNew env e.name → e.ty ≡ Universe s → e.kind ≡ Assumed → e.used ≡ [] → MayEnter env e
+may_assume env e s new ty kind used =
+    record {
+      new = new;
+      own = rw kind tt;
+      entry = record { closed = rw (ty, kind) (refl, tt); globals = rw (ty, kind) tt; ascending = rw used tt; used = rw used tt };
+      used = rw (ty, kind) tt;
+    }

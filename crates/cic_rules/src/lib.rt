@@ -1,0 +1,22 @@
+//! The written rules of the kernel: contexts, environments, reduction, conversion, inference and
+//! declarations, as definitions on plain trees that the crates above are proved to meet.
+#![tactic(auto)]
+
+mod context;
+mod decls;
+mod entries;
+mod env;
+mod fuel;
+mod judge;
+mod laws;
+
+pub use context::{Context, Hyp};
+pub use decls::{ContextList, Ctor, CtorList, Decl, InductiveDecl};
+pub use entries::{Entry, EntryKind, EntryList};
+pub use env::GlobalEnv;
+pub use fuel::Fuel;
+pub use judge::{Answer, Declares, Inferred, Judge, Mode};
+pub use laws::{law_of_axioms, law_of_names};
+
+#[cfg(test)]
+mod tests;

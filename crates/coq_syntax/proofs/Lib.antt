@@ -1,0 +1,10 @@
+pub mod Closing
+pub mod Runs
+pub mod Lexemes
+pub mod Lawful
+pub mod Passing
+pub mod Sentence
+pub mod Classes
+pub mod Heads
+pub mod Unique
+pub mod Examples

@@ -1,0 +1,107 @@
+-- Commands: their tokens, which trees are commands, and their faults.
+use Rattle.std.specs.Prelude.{◌≡◌, ℕ, Option, None, Some, List, [], ◌∷◌, codes}
+use Rattle.coq_syntax.specs.declared.token.Token.{Token}
+use Rattle.coq_syntax.specs.declared.words.TokenPlace.{TokenPlace}
+use Rattle.coq_syntax.specs.declared.command.AssumptionWord.{AssumptionWord}
+use Rattle.coq_syntax.specs.declared.command.AssumptionWord.TheVariants.{Axiom, Parameter}
+use Rattle.coq_syntax.specs.declared.command.StatementWord.{StatementWord}
+use Rattle.coq_syntax.specs.declared.command.StatementWord.TheVariants.{Theorem, Lemma}
+use Rattle.coq_syntax.specs.declared.command.Constructor.{Constructor}
+use Rattle.coq_syntax.specs.declared.command.Command.{Command}
+use Rattle.coq_syntax.specs.declared.command.Command.TheVariants.{Assume, Define, State, Inductive, Check, Proof, Qed, Defined, Admitted, Aborted}
+use Rattle.coq_syntax.specs.Nodes.{groups_of, annotation_of}
+use Rattle.coq_syntax.specs.Spelled.{symbol, keyword, identifier, spells, groups, annotation}
+use Rattle.coq_syntax.specs.Grammar.{IsTerm, AreGroups, IsAnnotation}
+use Rattle.coq_syntax.specs.Faults.{Fault, first, groups_fault, annotation_fault, term_fault}
+
+abbrev pub assumption_word : AssumptionWord → List ℕ
+assumption_word Axiom = codes "Axiom"
+assumption_word Parameter = codes "Parameter"
+
+abbrev pub statement_word : StatementWord → List ℕ
+statement_word Theorem = codes "Theorem"
+statement_word Lemma = codes "Lemma"
+
+-- ["|"]
+abbrev pub bar : Option TokenPlace → List Token → List Token
+bar None rest = rest
+bar (Some place) rest = symbol (codes "|") place ∷ rest
+
+-- ctor = identifier {group} [":" term], behind its bar
+abbrev pub constructor : Constructor → List Token → List Token
+constructor c rest = bar c.bar (identifier c.name ∷ groups (groups_of c.groups.items) (annotation (annotation_of c.annotation) rest))
+
+abbrev pub constructors : List Constructor → List Token → List Token
+constructors [] rest = rest
+constructors (c ∷ cs) rest = constructor c (constructors cs rest)
+
+-- the tokens of a command
+abbrev pub command_tokens : Command → List Token
+command_tokens (Assume w p x q t) = keyword (assumption_word w) p ∷ identifier x ∷ symbol (codes ":") q ∷ spells t []
+command_tokens (Define p x gs a q t) = keyword (codes "Definition") p ∷ identifier x ∷ groups (groups_of gs.items) (annotation (annotation_of a) (symbol (codes ":=") q ∷ spells t []))
+command_tokens (State w p x gs q t) = keyword (statement_word w) p ∷ identifier x ∷ groups (groups_of gs.items) (symbol (codes ":") q ∷ spells t [])
+command_tokens (Inductive p x gs q t r cs) = keyword (codes "Inductive") p ∷ identifier x ∷ groups (groups_of gs.items) (symbol (codes ":") q ∷ spells t (symbol (codes ":=") r ∷ constructors cs.items []))
+command_tokens (Check p t) = keyword (codes "Check") p ∷ spells t []
+command_tokens (Proof p) = keyword (codes "Proof") p ∷ []
+command_tokens (Qed p) = keyword (codes "Qed") p ∷ []
+command_tokens (Defined p) = keyword (codes "Defined") p ∷ []
+command_tokens (Admitted p) = keyword (codes "Admitted") p ∷ []
+command_tokens (Aborted p) = keyword (codes "Abort") p ∷ []
+
+abbrev pub IsConstructor : Constructor → Type 0
+IsConstructor c = AreGroups (groups_of c.groups.items) × IsAnnotation (annotation_of c.annotation)
+
+-- a bar is written
+abbrev pub IsBarred : Option TokenPlace → Type 0
+IsBarred None = ⊥
+IsBarred (Some place) = Unit {0}
+
+-- {"|" ctor}
+abbrev pub AreBarred : List Constructor → Type 0
+AreBarred [] = Unit {0}
+AreBarred (c ∷ cs) = IsBarred c.bar × IsConstructor c × AreBarred cs
+
+-- [["|"] ctor {"|" ctor}]
+abbrev pub AreConstructors : List Constructor → Type 0
+AreConstructors [] = Unit {0}
+AreConstructors (c ∷ cs) = IsConstructor c × AreBarred cs
+
+-- the tree is a command
+abbrev pub IsCommand : Command → Type 0
+IsCommand (Assume w p x q t) = IsTerm t
+IsCommand (Define p x gs a q t) = AreGroups (groups_of gs.items) × IsAnnotation (annotation_of a) × IsTerm t
+IsCommand (State w p x gs q t) = AreGroups (groups_of gs.items) × IsTerm t
+IsCommand (Inductive p x gs q t r cs) = AreGroups (groups_of gs.items) × IsTerm t × AreConstructors cs.items
+IsCommand (Check p t) = IsTerm t
+IsCommand (Proof p) = Unit {0}
+IsCommand (Qed p) = Unit {0}
+IsCommand (Defined p) = Unit {0}
+IsCommand (Admitted p) = Unit {0}
+IsCommand (Aborted p) = Unit {0}
+
+-- the tokens have this command
+abbrev pub IsCommandOf : List Token → Command → Type 0
+IsCommandOf tokens c = IsCommand c × (command_tokens c ≡ tokens)
+
+abbrev pub constructors_fault : List Constructor → Option Fault
+constructors_fault [] = None
+constructors_fault (c ∷ cs) =
+    first (groups_fault (groups_of c.groups.items) 200 (annotation (annotation_of c.annotation) (constructors cs [])))
+    (first (annotation_fault (annotation_of c.annotation) 200 (constructors cs [])) (constructors_fault cs))
+
+-- the first fault of a command: each of its terms stands by itself
+abbrev pub command_fault : Command → Option Fault
+command_fault (Assume w p x q t) = term_fault t []
+command_fault (Define p x gs a q t) =
+    first (groups_fault (groups_of gs.items) 200 (annotation (annotation_of a) (symbol (codes ":=") q ∷ spells t [])))
+    (first (annotation_fault (annotation_of a) 200 (symbol (codes ":=") q ∷ spells t [])) (term_fault t []))
+command_fault (State w p x gs q t) = first (groups_fault (groups_of gs.items) 200 (symbol (codes ":") q ∷ spells t [])) (term_fault t [])
+command_fault (Inductive p x gs q t r cs) =
+    first (groups_fault (groups_of gs.items) 200 (symbol (codes ":") q ∷ spells t (symbol (codes ":=") r ∷ constructors cs.items [])))
+    (first (term_fault t (symbol (codes ":=") r ∷ constructors cs.items [])) (constructors_fault cs.items))
+command_fault (Check p t) = term_fault t []
+command_fault (Proof p) = None
+command_fault (Qed p) = None
+command_fault (Defined p) = None
+command_fault (Admitted p) = None
+command_fault (Aborted p) = None

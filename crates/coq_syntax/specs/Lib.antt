@@ -1,0 +1,15 @@
+pub mod Tokens
+pub mod Characters
+pub mod Lexemes
+pub mod Pieces
+pub mod Scan
+pub mod Trees
+pub mod TreeCode
+pub mod Nodes
+pub mod NodeSizes
+pub mod Spelled
+pub mod Grammar
+pub mod Faults
+pub mod Commands
+pub mod Moves
+pub mod Examples
