@@ -35,15 +35,15 @@ module _ {M : Type 0} (after : M → Sentence → M) (diagnosed : M → Sentence
         placed = k.placed;
         few = omega arith;
         state_is =
-          is ∙ ap (λ m. after m (sentence_at text s)) k.state_is
-          ∙ sym (ap (state_after after first text) parts ∙ state-push first (take done spans) s);
+            is ∙ ap (λ m. after m (sentence_at text s)) k.state_is
+            ∙ sym (ap (state_after after first text) parts ∙ state-push first (take done spans) s);
         given_is =
-          ap (flat_map (λ ds. ds)) grown_is
-          ∙ flat_map-append (λ ds. ds) given (diags ∷ [])
-          ∙ ap (λ ds. flat_map (λ ds. ds) given ++ ds) (append-nil diags)
-          ∙ ap (λ ds. ds ++ diags) k.given_is
-          ∙ ap (λ ds. told after diagnosed first text (take done spans) ++ ds) (told_is ∙ ap (λ m. map (shifted s.from) (diagnosed m (sentence_at text s))) k.state_is)
-          ∙ sym (ap (told after diagnosed first text) parts ∙ told-push first (take done spans) s);
+            ap (flat_map (λ ds. ds)) grown_is
+            ∙ flat_map-append (λ ds. ds) given (diags ∷ [])
+            ∙ ap (λ ds. flat_map (λ ds. ds) given ++ ds) (append-nil diags)
+            ∙ ap (λ ds. ds ++ diags) k.given_is
+            ∙ ap (λ ds. told after diagnosed first text (take done spans) ++ ds) (told_is ∙ ap (λ m. map (shifted s.from) (diagnosed m (sentence_at text s))) k.state_is)
+            ∙ sym (ap (told after diagnosed first text) parts ∙ told-push first (take done spans) s);
       }
 
 pub take_whole : (xs : List Span) → take (length xs) xs ≡ xs

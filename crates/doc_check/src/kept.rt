@@ -54,7 +54,15 @@ fn read_text(alloc: Global, text: &str) -> Result<(Doc, SpanList), DocStop>
 }
 
 /// Runs the sentence of a number.
-fn run_next<P: Prover, C: Ledger>(alloc: Global, prover: &P, state: &P::State, doc: &Doc, spans: &SpanList, number: usize, steps: &mut Steps<C>) -> Result<(P::State, DiagList), NoMem>
+fn run_next<P: Prover, C: Ledger>(
+    alloc: Global,
+    prover: &P,
+    state: &P::State,
+    doc: &Doc,
+    spans: &SpanList,
+    number: usize,
+    steps: &mut Steps<C>,
+) -> Result<(P::State, DiagList), NoMem>
     requires short { length doc.now ≤ 1048576 }
     requires placed { All (IsSpanOf doc.now) spans.now }
     requires within { number < length spans.now }
@@ -70,7 +78,14 @@ fn run_next<P: Prover, C: Ledger>(alloc: Global, prover: &P, state: &P::State, d
 }
 
 /// What is told of all sentences, and last the refusal of a proof that is left open.
-fn all_told<P: Prover>(alloc: Global, prover: &P, state: &P::State, doc: &Doc, spans: &SpanList, given: &[DiagList]) -> Result<DiagList, NoMem>
+fn all_told<P: Prover>(
+    alloc: Global,
+    prover: &P,
+    state: &P::State,
+    doc: &Doc,
+    spans: &SpanList,
+    given: &[DiagList],
+) -> Result<DiagList, NoMem>
     requires kept { IsKept P.first P.after P.diagnosed doc.now spans.now (length spans.now) (P.meaning state.now) given.now }
     ensures diags { IfOk result (λ diags. diags ≡ (checked P.first P.after P.diagnosed P.opened P.outline_of doc.now).diags) }
     ensures placed { IfOk result (λ diags. All (IsPlaced (length doc.now)) diags) }
@@ -84,7 +99,12 @@ fn all_told<P: Prover>(alloc: Global, prover: &P, state: &P::State, doc: &Doc, s
 impl<P: Prover> DocCheck<P> {
     /// A text of which no sentence is finished. TooLong comes exactly where it has over 1,048,576
     /// bytes.
-    pub fn new<C: Ledger>(alloc: Global, text: &str, prover: &P, steps: &mut Steps<C>) -> Result<DocCheck<P>, DocStop>
+    pub fn new<C: Ledger>(
+        alloc: Global,
+        text: &str,
+        prover: &P,
+        steps: &mut Steps<C>,
+    ) -> Result<DocCheck<P>, DocStop>
         ensures begun { IfOk result (λ d. (d.text ≡ text.now) × (d.done ≡ 0)) }
         ensures short { IfOk result (λ _. length text.now ≤ 1048576) }
         ensures too_long { IsErrOf result DocStop.TooLong → 1048576 < length text.now }
@@ -125,11 +145,24 @@ impl<P: Prover> DocCheck<P> {
     }
 
     /// Finishes one more sentence.
-    pub fn advance<C: Ledger>(&mut self, alloc: Global, prover: &P, steps: &mut Steps<C>) -> Result<(), NoMem>
+    pub fn advance<C: Ledger>(
+        &mut self,
+        alloc: Global,
+        prover: &P,
+        steps: &mut Steps<C>,
+    ) -> Result<(), NoMem>
         requires { is_ended self.old ≡ false }
         ensures { OnOk result (self.new ≡ record self.old { done = self.old.done + 1 }) }
     {
-        let (state, given) = run_next(alloc, prover, &self.state, &self.doc, &self.spans, self.done, steps)?;
+        let (state, given) = run_next(
+            alloc,
+            prover,
+            &self.state,
+            &self.doc,
+            &self.spans,
+            self.done,
+            steps,
+        )?;
         self.given.push(given)?;
         self.state = state;
         self.done += 1;
@@ -151,7 +184,14 @@ impl<P: Prover> DocCheck<P> {
         ensures diags { IfOk result (λ diags. diags ≡ (checked P.first P.after P.diagnosed P.opened P.outline_of self.now.text).diags) }
         ensures placed { IfOk result (λ diags. All (IsPlaced (length self.now.text)) diags) }
     {
-        all_told(alloc, prover, &self.state, &self.doc, &self.spans, self.given.as_slice())
+        all_told(
+            alloc,
+            prover,
+            &self.state,
+            &self.doc,
+            &self.spans,
+            self.given.as_slice(),
+        )
     }
 }
 

@@ -6,11 +6,11 @@ ghost use Rattle.prover_iface.specs.Check.{checked};
 ghost use Rattle.fleche_main.specs.Outcome.{ending_of, text_outcome, bytes_outcome, file_outcome};
 ghost use Rattle.fleche_main.specs.Run.{EndsAs};
 
-use doc_check::check_text;
 use crate::endings::{Ending, Halt};
 use crate::reports::{admission_count, error_count, report_lines};
 use crate::write::write_all;
 use base_core::{FileFault, FileSet, Sink, Steps};
+use doc_check::check_text;
 use prover_iface::{Prover, Report};
 use std::alloc::Global;
 use std::str;

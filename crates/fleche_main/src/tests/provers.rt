@@ -1,8 +1,8 @@
 ghost use Rattle.std.specs.Prelude.{◌≡◌, ◌^◌, ◌-◌, ◌<◌};
 
-use doc_check::check_text;
 use base_core::{Kind, NoMem, Steps};
 use cic_prover::CicProver;
+use doc_check::check_text;
 use prover_iface::{DiagList, GoalsView, Outcome, OutlineList, Prover, Report};
 use std::alloc::Global;
 use std::marker::Brand;
