@@ -4,3 +4,5 @@ pub mod Files
 pub mod MemSink
 pub mod MemFiles
 pub mod Fit
+pub mod Link
+pub mod ScriptLink

@@ -1,0 +1,6 @@
+pub mod Pieces
+pub mod Joins
+pub mod Heard
+pub mod Turned
+pub mod Played
+pub mod Told
