@@ -2,12 +2,9 @@
 use Rattle.std.specs.Prelude.{◌≡◌, Option, None, Some, List, [], ◌∷◌, codes}
 use Rattle.coq_syntax.specs.declared.token.Token.{Token}
 use Rattle.coq_syntax.specs.declared.words.Word.{Word}
-use Rattle.coq_syntax.specs.declared.moves.PatternCase.{PatternCase}
-use Rattle.coq_syntax.specs.declared.moves.Pattern.{Pattern}
 use Rattle.coq_syntax.specs.declared.moves.Direction.{Direction}
 use Rattle.coq_syntax.specs.declared.moves.Direction.TheVariants.{Unmarked, Forward, Backward}
-use Rattle.coq_syntax.specs.declared.moves.MoveTree.{MoveTree}
-use Rattle.coq_syntax.specs.declared.moves.MoveTree.TheVariants.{Intro, Intros, Exact, Apply, Assumption, Split, Left, Right, Reflexivity, Admit, Simpl, Unfold, Destruct, Induction, Rewrite}
+use Rattle.coq_syntax.specs.MoveTrees.{Case, Shape, Move, Intro, Intros, Exact, Apply, Assumption, Split, Left, Right, Reflexivity, Admit, Simpl, Unfold, Destruct, Induction, Rewrite}
 use Rattle.coq_syntax.specs.Spelled.{reserved, symbol, keyword, identifier, names, spells}
 use Rattle.coq_syntax.specs.Grammar.{IsTerm}
 use Rattle.coq_syntax.specs.Faults.{Fault, term_fault}
@@ -23,14 +20,14 @@ identifiers [] = []
 identifiers (w ∷ ws) = identifier w ∷ identifiers ws
 
 -- {"|" {name}}, and then these
-abbrev pub cases : List PatternCase → List Token → List Token
+abbrev pub cases : List Case → List Token → List Token
 cases [] rest = rest
-cases (c ∷ cs) rest = symbol (codes "|") c.bar ∷ names c.names.items (cases cs rest)
+cases (c ∷ cs) rest = symbol (codes "|") c.bar ∷ names c.names (cases cs rest)
 
 -- ["as" "[" {name} {"|" {name}} "]"]
-abbrev pub pattern_tokens : Option Pattern → List Token
+abbrev pub pattern_tokens : Option Shape → List Token
 pattern_tokens None = []
-pattern_tokens (Some p) = reserved (codes "as") p.keyword ∷ symbol (codes "[") p.opening ∷ names p.first.items (cases p.others.items (symbol (codes "]") p.closing ∷ []))
+pattern_tokens (Some p) = reserved (codes "as") p.keyword ∷ symbol (codes "[") p.opening ∷ names p.first (cases p.others (symbol (codes "]") p.closing ∷ []))
 
 -- ["->" | "<-"], and then these
 abbrev pub direction : Direction → List Token → List Token
@@ -39,9 +36,9 @@ direction (Forward place) rest = symbol (codes "->") place ∷ rest
 direction (Backward place) rest = symbol (codes "<-") place ∷ rest
 
 -- the tokens of a move
-abbrev pub move_tokens : MoveTree → List Token
+abbrev pub move_tokens : Move → List Token
 move_tokens (Intro p x) = keyword (codes "intro") p ∷ optional x
-move_tokens (Intros p xs) = keyword (codes "intros") p ∷ identifiers xs.items
+move_tokens (Intros p xs) = keyword (codes "intros") p ∷ identifiers xs
 move_tokens (Exact p t) = keyword (codes "exact") p ∷ spells t []
 move_tokens (Apply p t) = keyword (codes "apply") p ∷ spells t []
 move_tokens (Assumption p) = keyword (codes "assumption") p ∷ []
@@ -57,18 +54,18 @@ move_tokens (Induction p x pattern) = keyword (codes "induction") p ∷ identifi
 move_tokens (Rewrite p d t) = keyword (codes "rewrite") p ∷ direction d (spells t [])
 
 -- the tree is a move
-abbrev pub IsMove : MoveTree → Type 0
+abbrev pub IsMove : Move → Type 0
 IsMove (Exact p t) = IsTerm t
 IsMove (Apply p t) = IsTerm t
 IsMove (Rewrite p d t) = IsTerm t
 IsMove _ = Unit {0}
 
 -- the tokens have this move
-abbrev pub IsMoveOf : List Token → MoveTree → Type 0
+abbrev pub IsMoveOf : List Token → Move → Type 0
 IsMoveOf tokens m = IsMove m × (move_tokens m ≡ tokens)
 
 -- the first fault of a move
-abbrev pub move_fault : MoveTree → Option Fault
+abbrev pub move_fault : Move → Option Fault
 move_fault (Exact p t) = term_fault t []
 move_fault (Apply p t) = term_fault t []
 move_fault (Rewrite p d t) = term_fault t []
