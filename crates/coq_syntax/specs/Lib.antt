@@ -11,6 +11,7 @@ pub mod CommandTrees
 pub mod MoveTrees
 pub mod Forms
 pub mod Spelled
+pub mod Limits
 pub mod Grammar
 pub mod Faults
 pub mod Commands
