@@ -33,7 +33,7 @@ abbrev pub constructors : List Row → List Token → List Token
 constructors [] rest = rest
 constructors (c ∷ cs) rest = constructor c (constructors cs rest)
 
--- the tokens of a command
+-- the tokens of a command; the final period of its sentence is none of them
 abbrev pub command_tokens : Command → List Token
 -- `Axiom` or `Parameter`, name `:` term
 command_tokens (Assume w p x q t) = keyword (assumption_word w) p ∷ identifier x ∷ symbol (codes ":") q ∷ spells t []

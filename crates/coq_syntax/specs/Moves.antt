@@ -35,7 +35,7 @@ direction Unmarked rest = rest
 direction (Forward place) rest = symbol (codes "->") place ∷ rest
 direction (Backward place) rest = symbol (codes "<-") place ∷ rest
 
--- the tokens of a move; its term reaches to the end
+-- the tokens of a move; the final period of its sentence is none of them
 abbrev pub move_tokens : Move → List Token
 -- `intro` with a name or none
 move_tokens (Intro p x) = keyword (codes "intro") p ∷ optional x
