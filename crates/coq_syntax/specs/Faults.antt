@@ -33,7 +33,7 @@ value_of w = digits_value 0 w.text
 -- The first fault of a tree, with so many more rules allowed inside it, and the tokens that follow.
 -- Counted is each whole term (of a binder or an annotation, the body of `forall` and `fun`, the value and the body of
 -- a `let`, behind `->`, in parentheses, of a named argument), and the operand behind `\/`, `/\` and `~` unless it is
--- an open form. A left operand, the sides of `=` and the parts of an application count nothing.
+-- an open form. A left operand, the sides of `=`, and the head and the other arguments of an application count nothing.
 -- Of two faults at one token the nesting comes before the numeral.
 abbrev mutual
   pub fault : Term → ℕ → List Token → Option Fault
