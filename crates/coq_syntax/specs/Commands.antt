@@ -6,12 +6,10 @@ use Rattle.coq_syntax.specs.declared.command.AssumptionWord.{AssumptionWord}
 use Rattle.coq_syntax.specs.declared.command.AssumptionWord.TheVariants.{Axiom, Parameter}
 use Rattle.coq_syntax.specs.declared.command.StatementWord.{StatementWord}
 use Rattle.coq_syntax.specs.declared.command.StatementWord.TheVariants.{Theorem, Lemma}
-use Rattle.coq_syntax.specs.declared.command.Constructor.{Constructor}
-use Rattle.coq_syntax.specs.declared.command.Command.{Command}
-use Rattle.coq_syntax.specs.declared.command.Command.TheVariants.{Assume, Define, State, Inductive, Check, Proof, Qed, Defined, Admitted, Aborted}
-use Rattle.coq_syntax.specs.Nodes.{groups_of, annotation_of}
+use Rattle.coq_syntax.specs.CommandTrees.{Row, Command, Assume, Define, State, Inductive, Check, Proof, Qed, Defined, Admitted, Aborted}
 use Rattle.coq_syntax.specs.Spelled.{symbol, keyword, identifier, spells, groups, annotation}
 use Rattle.coq_syntax.specs.Grammar.{IsTerm, AreGroups, IsAnnotation}
+use Rattle.coq_syntax.specs.Limits.{most_nested}
 use Rattle.coq_syntax.specs.Faults.{Fault, first, groups_fault, annotation_fault, term_fault}
 
 abbrev pub assumption_word : AssumptionWord → List ℕ
@@ -28,28 +26,34 @@ bar None rest = rest
 bar (Some place) rest = symbol (codes "|") place ∷ rest
 
 -- ctor = identifier {group} [":" term], behind its bar
-abbrev pub constructor : Constructor → List Token → List Token
-constructor c rest = bar c.bar (identifier c.name ∷ groups (groups_of c.groups.items) (annotation (annotation_of c.annotation) rest))
+abbrev pub constructor : Row → List Token → List Token
+constructor c rest = bar c.bar (identifier c.name ∷ groups c.groups (annotation c.annotation rest))
 
-abbrev pub constructors : List Constructor → List Token → List Token
+abbrev pub constructors : List Row → List Token → List Token
 constructors [] rest = rest
 constructors (c ∷ cs) rest = constructor c (constructors cs rest)
 
--- the tokens of a command
+-- the tokens of a command; the final period of its sentence is none of them
 abbrev pub command_tokens : Command → List Token
+-- `Axiom` or `Parameter`, name `:` term
 command_tokens (Assume w p x q t) = keyword (assumption_word w) p ∷ identifier x ∷ symbol (codes ":") q ∷ spells t []
-command_tokens (Define p x gs a q t) = keyword (codes "Definition") p ∷ identifier x ∷ groups (groups_of gs.items) (annotation (annotation_of a) (symbol (codes ":=") q ∷ spells t []))
-command_tokens (State w p x gs q t) = keyword (statement_word w) p ∷ identifier x ∷ groups (groups_of gs.items) (symbol (codes ":") q ∷ spells t [])
-command_tokens (Inductive p x gs q t r cs) = keyword (codes "Inductive") p ∷ identifier x ∷ groups (groups_of gs.items) (symbol (codes ":") q ∷ spells t (symbol (codes ":=") r ∷ constructors cs.items []))
+-- `Definition` name groups annotation `:=` term
+command_tokens (Define p x gs a q t) = keyword (codes "Definition") p ∷ identifier x ∷ groups gs (annotation a (symbol (codes ":=") q ∷ spells t []))
+-- `Theorem` or `Lemma`, name groups `:` term
+command_tokens (State w p x gs q t) = keyword (statement_word w) p ∷ identifier x ∷ groups gs (symbol (codes ":") q ∷ spells t [])
+-- `Inductive` name groups `:` term `:=` constructors
+command_tokens (Inductive p x gs q t r cs) = keyword (codes "Inductive") p ∷ identifier x ∷ groups gs (symbol (codes ":") q ∷ spells t (symbol (codes ":=") r ∷ constructors cs []))
+-- `Check` term
 command_tokens (Check p t) = keyword (codes "Check") p ∷ spells t []
+-- each of these words alone
 command_tokens (Proof p) = keyword (codes "Proof") p ∷ []
 command_tokens (Qed p) = keyword (codes "Qed") p ∷ []
 command_tokens (Defined p) = keyword (codes "Defined") p ∷ []
 command_tokens (Admitted p) = keyword (codes "Admitted") p ∷ []
 command_tokens (Aborted p) = keyword (codes "Abort") p ∷ []
 
-abbrev pub IsConstructor : Constructor → Type 0
-IsConstructor c = AreGroups (groups_of c.groups.items) × IsAnnotation (annotation_of c.annotation)
+abbrev pub IsConstructor : Row → Type 0
+IsConstructor c = AreGroups c.groups × IsAnnotation c.annotation
 
 -- a bar is written
 abbrev pub IsBarred : Option TokenPlace → Type 0
@@ -57,22 +61,28 @@ IsBarred None = ⊥
 IsBarred (Some place) = Unit {0}
 
 -- {"|" ctor}
-abbrev pub AreBarred : List Constructor → Type 0
+abbrev pub AreBarred : List Row → Type 0
 AreBarred [] = Unit {0}
 AreBarred (c ∷ cs) = IsBarred c.bar × IsConstructor c × AreBarred cs
 
 -- [["|"] ctor {"|" ctor}]
-abbrev pub AreConstructors : List Constructor → Type 0
+abbrev pub AreConstructors : List Row → Type 0
 AreConstructors [] = Unit {0}
 AreConstructors (c ∷ cs) = IsConstructor c × AreBarred cs
 
 -- the tree is a command
 abbrev pub IsCommand : Command → Type 0
+-- any term
 IsCommand (Assume w p x q t) = IsTerm t
-IsCommand (Define p x gs a q t) = AreGroups (groups_of gs.items) × IsAnnotation (annotation_of a) × IsTerm t
-IsCommand (State w p x gs q t) = AreGroups (groups_of gs.items) × IsTerm t
-IsCommand (Inductive p x gs q t r cs) = AreGroups (groups_of gs.items) × IsTerm t × AreConstructors cs.items
+-- any groups, with an annotation or none, any term
+IsCommand (Define p x gs a q t) = AreGroups gs × IsAnnotation a × IsTerm t
+-- any groups, any term
+IsCommand (State w p x gs q t) = AreGroups gs × IsTerm t
+-- any groups, any term, constructors of which only the first may lack its bar
+IsCommand (Inductive p x gs q t r cs) = AreGroups gs × IsTerm t × AreConstructors cs
+-- any term
 IsCommand (Check p t) = IsTerm t
+-- a word alone
 IsCommand (Proof p) = Unit {0}
 IsCommand (Qed p) = Unit {0}
 IsCommand (Defined p) = Unit {0}
@@ -83,23 +93,31 @@ IsCommand (Aborted p) = Unit {0}
 abbrev pub IsCommandOf : List Token → Command → Type 0
 IsCommandOf tokens c = IsCommand c × (command_tokens c ≡ tokens)
 
-abbrev pub constructors_fault : List Constructor → Option Fault
+abbrev pub constructors_fault : List Row → Option Fault
+-- no constructor more
 constructors_fault [] = None
+-- in its groups, then in its annotation, then in the constructors behind it
 constructors_fault (c ∷ cs) =
-    first (groups_fault (groups_of c.groups.items) 200 (annotation (annotation_of c.annotation) (constructors cs [])))
-    (first (annotation_fault (annotation_of c.annotation) 200 (constructors cs [])) (constructors_fault cs))
+    first (groups_fault c.groups most_nested (annotation c.annotation (constructors cs [])))
+    (first (annotation_fault c.annotation most_nested (constructors cs [])) (constructors_fault cs))
 
--- the first fault of a command: each of its terms stands by itself
+-- the first fault of a command: each of its terms stands by itself, and so does the term of each group and annotation
 abbrev pub command_fault : Command → Option Fault
+-- in the type
 command_fault (Assume w p x q t) = term_fault t []
+-- in the groups, then in the annotation, then in the body
 command_fault (Define p x gs a q t) =
-    first (groups_fault (groups_of gs.items) 200 (annotation (annotation_of a) (symbol (codes ":=") q ∷ spells t [])))
-    (first (annotation_fault (annotation_of a) 200 (symbol (codes ":=") q ∷ spells t [])) (term_fault t []))
-command_fault (State w p x gs q t) = first (groups_fault (groups_of gs.items) 200 (symbol (codes ":") q ∷ spells t [])) (term_fault t [])
+    first (groups_fault gs most_nested (annotation a (symbol (codes ":=") q ∷ spells t [])))
+    (first (annotation_fault a most_nested (symbol (codes ":=") q ∷ spells t [])) (term_fault t []))
+-- in the groups, then in the statement
+command_fault (State w p x gs q t) = first (groups_fault gs most_nested (symbol (codes ":") q ∷ spells t [])) (term_fault t [])
+-- in the groups, then in the arity, then in the constructors
 command_fault (Inductive p x gs q t r cs) =
-    first (groups_fault (groups_of gs.items) 200 (symbol (codes ":") q ∷ spells t (symbol (codes ":=") r ∷ constructors cs.items [])))
-    (first (term_fault t (symbol (codes ":=") r ∷ constructors cs.items [])) (constructors_fault cs.items))
+    first (groups_fault gs most_nested (symbol (codes ":") q ∷ spells t (symbol (codes ":=") r ∷ constructors cs [])))
+    (first (term_fault t (symbol (codes ":=") r ∷ constructors cs [])) (constructors_fault cs))
+-- in the term
 command_fault (Check p t) = term_fault t []
+-- no term is written
 command_fault (Proof p) = None
 command_fault (Qed p) = None
 command_fault (Defined p) = None

@@ -3,10 +3,16 @@ use Rattle.std.specs.Prelude.{◌≡◌, ℕ, zero, suc, ◌+◌, None, Some, Li
 use Rattle.coq_syntax.specs.declared.token.Token.{Token}
 use Rattle.coq_syntax.specs.declared.words.TokenPlace.{TokenPlace}
 use Rattle.coq_syntax.specs.declared.words.Word.{Word}
-use Rattle.coq_syntax.specs.Trees.{Term, Arrow, Or, And, Not, Equal, Name, TypeAt, Numeral, Parenthesized}
-use Rattle.coq_syntax.specs.Spelled.{symbol, identifier, number}
+use Rattle.coq_syntax.specs.declared.words.BoundName.TheVariants.{Named}
+use Rattle.coq_syntax.specs.declared.moves.Direction.TheVariants.{Backward}
+use Rattle.coq_syntax.specs.Trees.{Term, Arrow, Or, And, Not, Equal, Name, SetSort, TypeAt, Numeral, Parenthesized, NoGroup, Untyped, Typed}
+use Rattle.coq_syntax.specs.CommandTrees.{Row, Command, Define, Inductive}
+use Rattle.coq_syntax.specs.MoveTrees.{Exact, Destruct, Rewrite}
+use Rattle.coq_syntax.specs.Spelled.{reserved, symbol, keyword, identifier, number}
 use Rattle.coq_syntax.specs.Grammar.{IsTermOf}
 use Rattle.coq_syntax.specs.Faults.{term_fault}
+use Rattle.coq_syntax.specs.Commands.{IsCommand, IsCommandOf, command_fault}
+use Rattle.coq_syntax.specs.Moves.{IsMoveOf, move_fault}
 
 abbrev pub place : ℕ → TokenPlace
 place n = record { from = n; to = n + 1 }
@@ -60,3 +66,39 @@ closings (suc n) = symbol (codes ")") (place 2) ∷ closings n
 -- `a` in 200 parentheses is refused at `a`, and in 199 it is not
 abbrev pub RulesNest200Deep : Type 0
 RulesNest200Deep = (term_fault (wrapped 200) [] ≡ Some (record { code = 11; rest = identifier a ∷ closings 200 })) × (term_fault (wrapped 199) [] ≡ None)
+
+-- a constructor `b`, without a bar
+abbrev pub unbarred : Row
+unbarred = record { bar = None; name = b; groups = NoGroup; annotation = Untyped }
+
+-- a constructor `| c`
+abbrev pub barred : Row
+barred = record { bar = Some (place 5); name = c; groups = NoGroup; annotation = Untyped }
+
+-- `Inductive a : Set :=` and these constructors
+abbrev pub inductive : List Row → Command
+inductive rows = Inductive (place 1) a NoGroup (place 2) (SetSort (place 3)) (place 4) rows
+
+-- `Inductive a : Set := b | c`: the first constructor may lack its bar, and the second may not
+abbrev pub OnlyTheFirstBarIsFree : Type 0
+OnlyTheFirstBarIsFree =
+    IsCommandOf (keyword (codes "Inductive") (place 1) ∷ identifier a ∷ symbol (codes ":") (place 2) ∷ reserved (codes "Set") (place 3) ∷ symbol (codes ":=") (place 4) ∷ identifier b ∷ symbol (codes "|") (place 5) ∷ identifier c ∷ []) (inductive (unbarred ∷ barred ∷ []))
+    × (IsCommand (inductive (unbarred ∷ unbarred ∷ [])) → ⊥)
+
+-- `Definition a : T := t` is not refused where `T` and `t` are each `a` in 199 parentheses
+abbrev pub TermsOfACommandNestAlone : Type 0
+TermsOfACommandNestAlone = command_fault (Define (place 1) a NoGroup (Typed (place 2) (wrapped 199)) (place 3) (wrapped 199)) ≡ None
+
+-- `destruct a as [b | c]`
+abbrev pub PatternsHaveCases : Type 0
+PatternsHaveCases =
+    IsMoveOf (keyword (codes "destruct") (place 1) ∷ identifier a ∷ reserved (codes "as") (place 2) ∷ symbol (codes "[") (place 3) ∷ identifier b ∷ symbol (codes "|") (place 4) ∷ identifier c ∷ symbol (codes "]") (place 5) ∷ [])
+    (Destruct (place 1) a (Some (record { keyword = place 2; opening = place 3; first = Named b ∷ []; others = record { bar = place 4; names = Named c ∷ [] } ∷ []; closing = place 5 })))
+
+-- `rewrite <- a`
+abbrev pub RewritesMayGoBack : Type 0
+RewritesMayGoBack = IsMoveOf (keyword (codes "rewrite") (place 1) ∷ symbol (codes "<-") (place 2) ∷ identifier a ∷ []) (Rewrite (place 1) (Backward (place 2)) (Name a))
+
+-- `exact 201` is refused at the number
+abbrev pub FaultsOfAMoveAreItsTerms : Type 0
+FaultsOfAMoveAreItsTerms = move_fault (Exact (place 1) (Numeral (word (codes "201")))) ≡ Some (record { code = 12; rest = number (word (codes "201")) ∷ [] })

@@ -7,7 +7,11 @@ pub mod Trees
 pub mod TreeCode
 pub mod Nodes
 pub mod NodeSizes
+pub mod CommandTrees
+pub mod MoveTrees
+pub mod Forms
 pub mod Spelled
+pub mod Limits
 pub mod Grammar
 pub mod Faults
 pub mod Commands

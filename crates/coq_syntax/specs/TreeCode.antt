@@ -196,3 +196,18 @@ mutual
 -- a term is stored as its marks
 abbrev pub term_code : Coded Term
 term_code = code_by (List Mark) (coded_list (coded× coded_ℕ (coded× (coded_list place_code) (coded_list bound_code)))) (λ t. term_marks t []) (λ ms. read ms []) (λ t. read_term t [] [])
+
+abbrev pub groups_in : Term → GroupList
+groups_in (Forall _ (Groups gs) _ _) = gs
+groups_in _ = NoGroup
+
+-- groups are stored as a term that holds them, and so is an annotation
+abbrev pub groups_code : Coded GroupList
+groups_code = code_by Term term_code (λ gs. Forall nowhere (Groups gs) nowhere (PropSort nowhere)) groups_in (λ _. refl)
+
+abbrev pub annotation_in : Term → Annotation
+annotation_in (Let _ _ a _ _ _ _) = a
+annotation_in _ = Untyped
+
+abbrev pub annotation_code : Coded Annotation
+annotation_code = code_by Term term_code (λ a. Let nowhere (Unnamed nowhere) a nowhere (PropSort nowhere) nowhere (PropSort nowhere)) annotation_in (λ _. refl)

@@ -1,4 +1,8 @@
+ghost use Rattle.std.specs.Prelude.{◌≡◌};
+ghost use Rattle.coq_syntax.specs.Forms.{command_of};
+
 use crate::{Annotation, Group, SurfaceTerm, TokenPlace, Word};
+use std::marker::Model;
 
 #[derive(Clone, Copy, Debug, PartialEq, Eq)]
 pub enum AssumptionWord {
@@ -21,9 +25,15 @@ pub struct Constructor {
     pub annotation: Annotation,
 }
 
-/// A command, one variant for each row of the grammar of commands.
+/// A command as it is written, with the places of its tokens.
 #[derive(Drop)]
-pub enum Command {
+pub struct Command {
+    form: CommandForm,
+}
+
+/// The parts of a command, one variant for each row of the grammar of commands.
+#[derive(Drop)]
+pub enum CommandForm {
     Assume {
         word: AssumptionWord,
         keyword: TokenPlace,
@@ -65,4 +75,32 @@ pub enum Command {
     Defined(TokenPlace),
     Admitted(TokenPlace),
     Aborted(TokenPlace),
+}
+
+impl Model for Command {
+    ghost use Rattle.coq_syntax.specs.CommandTrees as command;
+    ghost use Rattle.std.specs.Coded.{codes};
+    ghost use Rattle.coq_syntax.specs.TreeCode.{term_code, groups_code, annotation_code};
+
+    ghost Value = { command.Command };
+
+    ghost coded = { Prim.hlevel (codes, term_code, groups_code, annotation_code) };
+
+    ghost use Rattle.coq_syntax.specs.Forms.{command_of};
+
+    ghost view = { λ c. command_of c.form };
+}
+
+impl Command {
+    pub fn new(form: CommandForm) -> Command
+        ensures { result ≡ command_of form }
+    {
+        Command { form }
+    }
+
+    pub fn form(&self) -> &CommandForm
+        ensures { command_of result.now ≡ self.now }
+    {
+        &self.form
+    }
 }

@@ -2,7 +2,7 @@
 
 ghost use Rattle.std.specs.Prelude.{◌≡◌, ℕ, List};
 ghost use Rattle.coq_syntax.specs.Tokens.{Tokens};
-ghost use Rattle.coq_syntax.specs.Examples.{ArrowsGroupRight, NotIsLooserThanEqual, OrIsLooserThanAnd, NumeralsEndAt200, LevelsBeginAt1, RulesNest200Deep};
+ghost use Rattle.coq_syntax.specs.Examples.{ArrowsGroupRight, NotIsLooserThanEqual, OrIsLooserThanAnd, NumeralsEndAt200, LevelsBeginAt1, RulesNest200Deep, OnlyTheFirstBarIsFree, TermsOfACommandNestAlone, PatternsHaveCases, RewritesMayGoBack, FaultsOfAMoveAreItsTerms};
 ghost use Rattle.coq_syntax.specs.Pieces.{IsTokenList};
 
 /// A sentence has at most one token list.
@@ -10,7 +10,7 @@ pub fn law_of_tokens()
     ensures { (sentence : List ℕ) (a b : Tokens) → IsTokenList sentence a → IsTokenList sentence b → a ≡ b }
 {}
 
-/// Worked examples of the grammar of terms, and of what is refused of a term.
+/// Worked examples of the grammars of terms, commands and moves, and of what is refused of them.
 pub fn law_of_examples()
     ensures arrows { ArrowsGroupRight }
     ensures not_equal { NotIsLooserThanEqual }
@@ -18,4 +18,9 @@ pub fn law_of_examples()
     ensures numerals { NumeralsEndAt200 }
     ensures levels { LevelsBeginAt1 }
     ensures nesting { RulesNest200Deep }
+    ensures bars { OnlyTheFirstBarIsFree }
+    ensures alone { TermsOfACommandNestAlone }
+    ensures patterns { PatternsHaveCases }
+    ensures backward { RewritesMayGoBack }
+    ensures move_faults { FaultsOfAMoveAreItsTerms }
 {}

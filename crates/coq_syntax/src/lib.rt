@@ -15,9 +15,9 @@ mod tokenizing;
 mod tree;
 mod words;
 
-pub use command::{AssumptionWord, Command, Constructor, StatementWord};
+pub use command::{AssumptionWord, Command, CommandForm, Constructor, StatementWord};
 pub use laws::{law_of_examples, law_of_tokens};
-pub use moves::{Direction, MoveTree, Pattern, PatternCase};
+pub use moves::{Direction, MoveForm, MoveTree, Pattern, PatternCase};
 pub use token::{Token, TokenKind, TokenList};
 pub use tokenizing::tokens;
 pub use tree::{Annotation, Argument, Binders, Group, Node, SurfaceTerm};

@@ -1,4 +1,8 @@
+ghost use Rattle.std.specs.Prelude.{◌≡◌};
+ghost use Rattle.coq_syntax.specs.Forms.{move_of};
+
 use crate::{BoundName, SurfaceTerm, TokenPlace, Word};
+use std::marker::Model;
 
 /// `| x y` in a pattern.
 #[derive(Debug, Drop)]
@@ -25,9 +29,15 @@ pub enum Direction {
     Backward(TokenPlace),
 }
 
-/// A proof move, one variant for each row of the grammar of moves.
+/// A proof move as it is written, with the places of its tokens.
 #[derive(Drop)]
-pub enum MoveTree {
+pub struct MoveTree {
+    form: MoveForm,
+}
+
+/// The parts of a proof move, one variant for each row of the grammar of moves.
+#[derive(Drop)]
+pub enum MoveForm {
     Intro {
         keyword: TokenPlace,
         name: Option<Word>,
@@ -70,4 +80,32 @@ pub enum MoveTree {
         direction: Direction,
         term: SurfaceTerm,
     },
+}
+
+impl Model for MoveTree {
+    ghost use Rattle.coq_syntax.specs.MoveTrees.{Move};
+    ghost use Rattle.std.specs.Coded.{codes};
+    ghost use Rattle.coq_syntax.specs.TreeCode.{term_code};
+
+    ghost Value = { Move };
+
+    ghost coded = { Prim.hlevel (codes, term_code) };
+
+    ghost use Rattle.coq_syntax.specs.Forms.{move_of};
+
+    ghost view = { λ m. move_of m.form };
+}
+
+impl MoveTree {
+    pub fn new(form: MoveForm) -> MoveTree
+        ensures { result ≡ move_of form }
+    {
+        MoveTree { form }
+    }
+
+    pub fn form(&self) -> &MoveForm
+        ensures { move_of result.now ≡ self.now }
+    {
+        &self.form
+    }
 }

@@ -38,9 +38,11 @@ fn shown(alloc: Global, body: &str) -> Result<String, NoMem> {
     Ok(text)
 }
 
-const CASES: [(&str, &str); 14] = [
+const CASES: [(&str, &str); 16] = [
     ("", "0"),
     ("_x'", "identifier _x' 0 3|3"),
+    ("_'", "identifier _' 0 2|2"),
+    ("x\u{a0}", "identifier x 0 1|other \u{a0} 1 3|3"),
     ("_", "wildcard _ 0 1|1"),
     ("x1 1x", "identifier x1 0 2|number 1 3 4|identifier x 4 5|5"),
     (
