@@ -7,7 +7,7 @@ use Rattle.coq_syntax.specs.declared.command.StatementWord.{StatementWord}
 use Rattle.coq_syntax.specs.Trees.{Term, GroupList, Annotation}
 
 -- a constructor of an inductive type
-pub record Row : Type 0 where
+pub record Constructor : Type 0 where
   pub bar : Option TokenPlace
   pub name : Word
   pub groups : GroupList
@@ -17,7 +17,7 @@ pub data Command : Type 0 where
   Assume : (word : AssumptionWord) (keyword : TokenPlace) (name : Word) (colon : TokenPlace) (ty : Term) → Command
   Define : (keyword : TokenPlace) (name : Word) (groups : GroupList) (annotation : Annotation) (assign : TokenPlace) (body : Term) → Command
   State : (word : StatementWord) (keyword : TokenPlace) (name : Word) (groups : GroupList) (colon : TokenPlace) (ty : Term) → Command
-  Inductive : (keyword : TokenPlace) (name : Word) (groups : GroupList) (colon : TokenPlace) (arity : Term) (assign : TokenPlace) (rows : List Row) → Command
+  Inductive : (keyword : TokenPlace) (name : Word) (groups : GroupList) (colon : TokenPlace) (arity : Term) (assign : TokenPlace) (constructors : List Constructor) → Command
   Check : (keyword : TokenPlace) (term : Term) → Command
   Proof : (place : TokenPlace) → Command
   Qed : (place : TokenPlace) → Command

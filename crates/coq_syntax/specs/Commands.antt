@@ -6,7 +6,7 @@ use Rattle.coq_syntax.specs.declared.command.AssumptionWord.{AssumptionWord}
 use Rattle.coq_syntax.specs.declared.command.AssumptionWord.TheVariants.{Axiom, Parameter}
 use Rattle.coq_syntax.specs.declared.command.StatementWord.{StatementWord}
 use Rattle.coq_syntax.specs.declared.command.StatementWord.TheVariants.{Theorem, Lemma}
-use Rattle.coq_syntax.specs.CommandTrees.{Row, Command, Assume, Define, State, Inductive, Check, Proof, Qed, Defined, Admitted, Aborted}
+use Rattle.coq_syntax.specs.CommandTrees.{Constructor, Command, Assume, Define, State, Inductive, Check, Proof, Qed, Defined, Admitted, Aborted}
 use Rattle.coq_syntax.specs.Spelled.{symbol, keyword, identifier, spells, groups, annotation}
 use Rattle.coq_syntax.specs.Grammar.{IsTerm, AreGroups, IsAnnotation}
 use Rattle.coq_syntax.specs.Limits.{most_nested}
@@ -26,10 +26,10 @@ bar None rest = rest
 bar (Some place) rest = symbol (codes "|") place ∷ rest
 
 -- ctor = identifier {group} [":" term], behind its bar
-abbrev pub constructor : Row → List Token → List Token
+abbrev pub constructor : Constructor → List Token → List Token
 constructor c rest = bar c.bar (identifier c.name ∷ groups c.groups (annotation c.annotation rest))
 
-abbrev pub constructors : List Row → List Token → List Token
+abbrev pub constructors : List Constructor → List Token → List Token
 constructors [] rest = rest
 constructors (c ∷ cs) rest = constructor c (constructors cs rest)
 
@@ -52,7 +52,7 @@ command_tokens (Defined p) = keyword (codes "Defined") p ∷ []
 command_tokens (Admitted p) = keyword (codes "Admitted") p ∷ []
 command_tokens (Aborted p) = keyword (codes "Abort") p ∷ []
 
-abbrev pub IsConstructor : Row → Type 0
+abbrev pub IsConstructor : Constructor → Type 0
 IsConstructor c = AreGroups c.groups × IsAnnotation c.annotation
 
 -- a bar is written
@@ -61,12 +61,12 @@ IsBarred None = ⊥
 IsBarred (Some place) = Unit {0}
 
 -- {"|" ctor}
-abbrev pub AreBarred : List Row → Type 0
+abbrev pub AreBarred : List Constructor → Type 0
 AreBarred [] = Unit {0}
 AreBarred (c ∷ cs) = IsBarred c.bar × IsConstructor c × AreBarred cs
 
 -- [["|"] ctor {"|" ctor}]
-abbrev pub AreConstructors : List Row → Type 0
+abbrev pub AreConstructors : List Constructor → Type 0
 AreConstructors [] = Unit {0}
 AreConstructors (c ∷ cs) = IsConstructor c × AreBarred cs
 
@@ -93,7 +93,7 @@ IsCommand (Aborted p) = Unit {0}
 abbrev pub IsCommandOf : List Token → Command → Type 0
 IsCommandOf tokens c = IsCommand c × (command_tokens c ≡ tokens)
 
-abbrev pub constructors_fault : List Row → Option Fault
+abbrev pub constructors_fault : List Constructor → Option Fault
 -- no constructor more
 constructors_fault [] = None
 -- in its groups, then in its annotation, then in the constructors behind it

@@ -6,7 +6,7 @@ use Rattle.coq_syntax.specs.declared.words.Word.{Word}
 use Rattle.coq_syntax.specs.declared.words.BoundName.TheVariants.{Named}
 use Rattle.coq_syntax.specs.declared.moves.Direction.TheVariants.{Backward}
 use Rattle.coq_syntax.specs.Trees.{Term, Arrow, Or, And, Not, Equal, Name, SetSort, TypeAt, Numeral, Parenthesized, NoGroup, Untyped, Typed}
-use Rattle.coq_syntax.specs.CommandTrees.{Row, Command, Define, Inductive}
+use Rattle.coq_syntax.specs.CommandTrees.{Constructor, Command, Define, Inductive}
 use Rattle.coq_syntax.specs.MoveTrees.{Exact, Destruct, Rewrite}
 use Rattle.coq_syntax.specs.Spelled.{reserved, symbol, keyword, identifier, number}
 use Rattle.coq_syntax.specs.Grammar.{IsTermOf}
@@ -68,15 +68,15 @@ abbrev pub RulesNest200Deep : Type 0
 RulesNest200Deep = (term_fault (wrapped 200) [] ≡ Some (record { code = 11; rest = identifier a ∷ closings 200 })) × (term_fault (wrapped 199) [] ≡ None)
 
 -- a constructor `b`, without a bar
-abbrev pub unbarred : Row
+abbrev pub unbarred : Constructor
 unbarred = record { bar = None; name = b; groups = NoGroup; annotation = Untyped }
 
 -- a constructor `| c`
-abbrev pub barred : Row
+abbrev pub barred : Constructor
 barred = record { bar = Some (place 5); name = c; groups = NoGroup; annotation = Untyped }
 
 -- `Inductive a : Set :=` and these constructors
-abbrev pub inductive : List Row → Command
+abbrev pub inductive : List Constructor → Command
 inductive rows = Inductive (place 1) a NoGroup (place 2) (SetSort (place 3)) (place 4) rows
 
 -- `Inductive a : Set := b | c`: the first constructor may lack its bar, and the second may not

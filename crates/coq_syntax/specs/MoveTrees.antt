@@ -7,16 +7,16 @@ use Rattle.coq_syntax.specs.declared.moves.Direction.{Direction}
 use Rattle.coq_syntax.specs.Trees.{Term}
 
 -- `| x y` in a pattern
-pub record Case : Type 0 where
+pub record PatternCase : Type 0 where
   pub bar : TokenPlace
   pub names : List BoundName
 
 -- `as [x y | z]`
-pub record Shape : Type 0 where
+pub record Pattern : Type 0 where
   pub keyword : TokenPlace
   pub opening : TokenPlace
   pub first : List BoundName
-  pub others : List Case
+  pub others : List PatternCase
   pub closing : TokenPlace
 
 pub data Move : Type 0 where
@@ -32,6 +32,6 @@ pub data Move : Type 0 where
   Admit : (place : TokenPlace) → Move
   Simpl : (place : TokenPlace) → Move
   Unfold : (keyword : TokenPlace) (name : Word) → Move
-  Destruct : (keyword : TokenPlace) (name : Word) (pattern : Option Shape) → Move
-  Induction : (keyword : TokenPlace) (name : Word) (pattern : Option Shape) → Move
+  Destruct : (keyword : TokenPlace) (name : Word) (pattern : Option Pattern) → Move
+  Induction : (keyword : TokenPlace) (name : Word) (pattern : Option Pattern) → Move
   Rewrite : (keyword : TokenPlace) (direction : Direction) (term : Term) → Move

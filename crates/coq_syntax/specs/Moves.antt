@@ -4,7 +4,7 @@ use Rattle.coq_syntax.specs.declared.token.Token.{Token}
 use Rattle.coq_syntax.specs.declared.words.Word.{Word}
 use Rattle.coq_syntax.specs.declared.moves.Direction.{Direction}
 use Rattle.coq_syntax.specs.declared.moves.Direction.TheVariants.{Unmarked, Forward, Backward}
-use Rattle.coq_syntax.specs.MoveTrees.{Case, Shape, Move, Intro, Intros, Exact, Apply, Assumption, Split, Left, Right, Reflexivity, Admit, Simpl, Unfold, Destruct, Induction, Rewrite}
+use Rattle.coq_syntax.specs.MoveTrees.{PatternCase, Pattern, Move, Intro, Intros, Exact, Apply, Assumption, Split, Left, Right, Reflexivity, Admit, Simpl, Unfold, Destruct, Induction, Rewrite}
 use Rattle.coq_syntax.specs.Spelled.{reserved, symbol, keyword, identifier, names, spells}
 use Rattle.coq_syntax.specs.Grammar.{IsTerm}
 use Rattle.coq_syntax.specs.Faults.{Fault, term_fault}
@@ -20,12 +20,12 @@ identifiers [] = []
 identifiers (w ∷ ws) = identifier w ∷ identifiers ws
 
 -- {"|" {name}}, and then these
-abbrev pub cases : List Case → List Token → List Token
+abbrev pub cases : List PatternCase → List Token → List Token
 cases [] rest = rest
 cases (c ∷ cs) rest = symbol (codes "|") c.bar ∷ names c.names (cases cs rest)
 
 -- ["as" "[" {name} {"|" {name}} "]"]
-abbrev pub pattern_tokens : Option Shape → List Token
+abbrev pub pattern_tokens : Option Pattern → List Token
 pattern_tokens None = []
 pattern_tokens (Some p) = reserved (codes "as") p.keyword ∷ symbol (codes "[") p.opening ∷ names p.first (cases p.others (symbol (codes "]") p.closing ∷ []))
 
