@@ -1,5 +1,5 @@
 -- What an entry rests on: the assumptions and admitted theorems that it reaches, and derivations all the way down to them.
-use Rattle.std.specs.Prelude.{◌≡◌, ℕ, zero, suc, List, [], ◌∷◌, ◌++◌, take, Bool, true, false, Option, Some, None, IsTrue, if◌then◌else◌}
+use Rattle.std.specs.Prelude.{◌≡◌, ℕ, zero, suc, ◌+◌, List, [], ◌∷◌, ◌++◌, take, Bool, true, false, Option, Some, None, IsTrue, if◌then◌else◌, slice_get}
 use Rattle.core_term.specs.declared.sorts.Sort.{Sort}
 use Rattle.core_term.specs.Tree.{Tree, Universe}
 use Rattle.cic_rules.specs.declared.decls.InductiveDecl.{InductiveDecl}
@@ -10,6 +10,8 @@ use Rattle.cic_rules.specs.declared.env.Slot.{Slot}
 use Rattle.cic_rules.specs.Environments.{entry_at, decl_at, has}
 use Rattle.cic_rules.specs.Infer.{union}
 use Rattle.cic_rules.specs.Derive.{Derives}
+use Rattle.cic_rules.specs.Eliminators.{type_entry, family_entries}
+use Rattle.cic_rules.specs.Inductive.{permitted}
 use Rattle.cic_rules.specs.WellFormed.{KeepsRules}
 
 abbrev used_by : Option Entry → List ℕ
@@ -66,7 +68,9 @@ pub data IsGrounded (env : List Slot) (axs : List ℕ) : ℕ → Type 0 where
       Derives (take p env) e.used [] e.ty (Universe s) → Derives (take p env) e.used [] body e.ty →
       ((q : ℕ) → IsTrue (has e.used q) → IsGrounded env axs q) → IsGrounded env axs p
   GroundedInductive : (p : ℕ) (e : Entry) (d : InductiveDecl) (s : Sort) (rows : List (List Sort)) → entry_at env p ≡ Some e →
-      decl_at env p ≡ Some d → KeepsRules (take p env) d e.used s rows →
+      decl_at env p ≡ Some d → e ≡ type_entry d e.used → KeepsRules (take p env) d e.used s rows →
       ((q : ℕ) → IsTrue (has e.used q) → IsGrounded env axs q) → IsGrounded env axs p
-  GroundedMember : (p : ℕ) (e : Entry) (of : ℕ) → entry_at env p ≡ Some e → family_of e.kind ≡ Some of → IsGrounded env axs of →
-      IsGrounded env axs p
+  -- a constructor or an eliminator: it stands in the family of the inductive type where the rules give it
+  GroundedMember : (of k : ℕ) (e i : Entry) (d : InductiveDecl) (s : Sort) (rows : List (List Sort)) → entry_at env (of + k) ≡ Some e →
+      family_of e.kind ≡ Some of → entry_at env of ≡ Some i → decl_at env of ≡ Some d → KeepsRules (take of env) d i.used s rows →
+      slice_get (family_entries (take of env) d i.used (permitted s rows)) k ≡ Some e → IsGrounded env axs of → IsGrounded env axs (of + k)
