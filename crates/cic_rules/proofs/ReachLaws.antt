@@ -4,7 +4,7 @@ use Rattle.std.proofs.lemmas.Bool.Decides.{nat_tests}
 use Rattle.cic_rules.specs.declared.env.Slot.{Slot}
 use Rattle.cic_rules.specs.Environments.{has, AreBefore}
 use Rattle.cic_rules.specs.Infer.{merge_in, union}
-use Rattle.cic_rules.specs.Grounded.{used_at, reached, Reaches, Uses, UsesFurther}
+use Rattle.cic_rules.specs.Grounded.{used_at, Reaches, Uses, UsesFurther}
 
 never : false ≡ true → ⊥
 never e = cc
