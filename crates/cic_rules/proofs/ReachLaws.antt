@@ -4,7 +4,8 @@ use Rattle.std.proofs.lemmas.Bool.Decides.{nat_tests}
 use Rattle.cic_rules.specs.declared.env.Slot.{Slot}
 use Rattle.cic_rules.specs.Environments.{has, AreBefore}
 use Rattle.cic_rules.specs.Infer.{merge_in, union}
-use Rattle.cic_rules.specs.Grounded.{used_at, Reaches, Uses, UsesFurther}
+use Rattle.cic_rules.specs.Grounded.{used_at, reached, assumptions, is_assumption, axioms, Reaches, Uses, UsesFurther}
+use Rattle.cic_rules.specs.Laws.{UsesBefore, AxiomsAreReached}
 
 never : false ≡ true → ⊥
 never e = cc
@@ -163,3 +164,135 @@ module _ (env : List Slot) (q : ℕ) where
 
   union_second : (x : ℕ) (us vs : List ℕ) → has vs x ≡ true → has (union us vs) x ≡ true
   union_second x us vs h = let room : length us + length vs ≤ length us + length vs = omega arith in merged_second x (length us + length vs) us vs room h
+
+clash : (b : Bool) → b ≡ false → b ≡ true → ⊥
+clash b f t = cc
+
+-- a place is the last one, or it starts below it
+data Down (env : List Slot) (names : List ℕ) (p q : ℕ) : Type 0 where
+  AtIt : p ≡ q → Down env names p q
+  Below : Starts env (union names (used_at env p)) p q → Down env names p q
+
+module _ (env : List Slot) where
+  from_by : (b : Bool) (p q : ℕ) (names with out : List ℕ) → has names p ≡ b →
+      (has with q ≡ true → Starts env (union names (used_at env p)) p q) → (has out q ≡ true → Starts env names p q) →
+      has (cond b (with ++ (p ∷ [])) out) q ≡ true → Starts env names (suc p) q
+  from_by true p q names with out is f g h = by (last_parts q p with h) where
+    by : InTwo q with (p ∷ []) → Starts env names (suc p) q
+    by (First a) = through env q p names is (f a)
+    by (Second b) = at_place env q p names is (split p q false b)
+  from_by false p q names with out is f g h = further env q p names (g h)
+
+  from_reached : (p q : ℕ) (names : List ℕ) → has (reached env p names) q ≡ true → Starts env names p q
+  from_reached zero q names h = absurd (never h)
+  from_reached (suc p) q names h =
+      from_by (has names p) p q names (reached env p (union names (used_at env p))) (reached env p names) refl
+      (from_reached p q (union names (used_at env p))) (from_reached p q names) h
+
+  far : (p q n : ℕ) (names : List ℕ) → AreBefore p (used_at env p) → has (used_at env p) n ≡ true → Reaches env n q → Down env names p q
+  far p q n names before u r =
+      Below (Goes n (below n p (used_at env p) before u) (union_second env q n names (used_at env p) u) r)
+
+  near : (p q : ℕ) (names : List ℕ) → AreBefore p (used_at env p) → has (used_at env p) q ≡ true → Down env names p q
+  near p q names before u = Below (Stands (below q p (used_at env p) before u) (union_second env q q names (used_at env p) u))
+
+  reach_down : (p q : ℕ) (names : List ℕ) → AreBefore p (used_at env p) → Reaches env p q → Down env names p q
+  reach_down p q names before (Uses u) = near p q names before u
+  reach_down p q names before (UsesFurther u r) = far p q _ names before u r
+
+  stands_down : (b : Bool) (p q : ℕ) (names : List ℕ) → (p == q) ≡ b → q < suc p → has names q ≡ true → Down env names p q
+  stands_down true p q names is lt m = AtIt (grind (arith, nat_tests, is))
+  stands_down false p q names is lt m =
+      let less : q < p = grind (arith, nat_tests, is, lt) in
+      Below (Stands less (union_first env q q names (used_at env p) m))
+
+  goes_down : (b : Bool) (p q n : ℕ) (names : List ℕ) → (n == p) ≡ b → AreBefore p (used_at env p) → n < suc p → has names n ≡ true →
+      Reaches env n q → Down env names p q
+  goes_down true p q n names is before lt m r =
+      let e : n ≡ p = grind (arith, nat_tests, is) in
+      let at : Reaches env p q = rw (← e) r in
+      reach_down p q names before at
+  goes_down false p q n names is before lt m r =
+      let less : n < p = grind (arith, nat_tests, is, lt) in
+      Below (Goes n less (union_first env q n names (used_at env p) m) r)
+
+  down : (p q : ℕ) (names : List ℕ) → AreBefore p (used_at env p) → Starts env names (suc p) q → Down env names p q
+  down p q names before (Stands lt m) = stands_down (p == q) p q names refl lt m
+  down p q names before (Goes n lt m r) = goes_down (n == p) p q n names refl before lt m r
+
+  less_by : (b : Bool) (p n : ℕ) (names : List ℕ) → (n == p) ≡ b → has names p ≡ false → has names n ≡ true → n < suc p → n < p
+  less_by true p n names is free m lt =
+      let e : n ≡ p = grind (arith, nat_tests, is) in
+      let at : has names p ≡ true = rw (← e) m in
+      absurd (clash (has names p) free at)
+  less_by false p n names is free m lt = grind (arith, nat_tests, is, lt)
+
+  skip : (p q : ℕ) (names : List ℕ) → has names p ≡ false → Starts env names (suc p) q → Starts env names p q
+  skip p q names free (Stands lt m) = Stands (less_by (q == p) p q names refl free m lt) m
+  skip p q names free (Goes n lt m r) = Goes n (less_by (n == p) p n names refl free m lt) m r
+
+  to_by : (b : Bool) (p q : ℕ) (names with out : List ℕ) → has names p ≡ b → AreBefore p (used_at env p) →
+      (Starts env (union names (used_at env p)) p q → has with q ≡ true) → (Starts env names p q → has out q ≡ true) →
+      Starts env names (suc p) q → has (cond b (with ++ (p ∷ [])) out) q ≡ true
+  to_by true p q names with out is before f g s = by (down p q names before s) where
+    by : Down env names p q → has (with ++ (p ∷ [])) q ≡ true
+    by (AtIt e) = at_last q p with e
+    by (Below t) = before_last q p with (f t)
+  to_by false p q names with out is before f g s = g (skip p q names is s)
+
+  reached_from : UsesBefore env → (p q : ℕ) (names : List ℕ) → Starts env names p q → has (reached env p names) q ≡ true
+  reached_from all zero q names (Stands lt m) = let none : ⊥ = omega (arith, lt) in absurd none
+  reached_from all zero q names (Goes n lt m r) = let none : ⊥ = omega (arith, lt) in absurd none
+  reached_from all (suc p) q names s =
+      to_by (has names p) p q names (reached env p (union names (used_at env p))) (reached env p names) refl (all p)
+      (reached_from all p q (union names (used_at env p))) (reached_from all p q names) s
+
+  kept_by : (b : Bool) (p q : ℕ) (ps : List ℕ) → is_assumption env p ≡ b →
+      (has (assumptions env ps) q ≡ true → (has ps q ≡ true) × (is_assumption env q ≡ true)) →
+      has (cond b (p ∷ assumptions env ps) (assumptions env ps)) q ≡ true → (has (p ∷ ps) q ≡ true) × (is_assumption env q ≡ true)
+  kept_by true p q ps is f h = by (split p q (has (assumptions env ps) q) h) where
+    by : Has q p (has (assumptions env ps) q) → (has (p ∷ ps) q ≡ true) × (is_assumption env q ≡ true)
+    by (Is e) = let at : is_assumption env q ≡ true = rw (← e) is in (here p q (has ps q) e, at)
+    by (More g) = (there p q (has ps q) (f g).0, (f g).1)
+  kept_by false p q ps is f h = (there p q (has ps q) (f h).0, (f h).1)
+
+  kept : (q : ℕ) (ps : List ℕ) → has (assumptions env ps) q ≡ true → (has ps q ≡ true) × (is_assumption env q ≡ true)
+  kept q [] h = absurd (never h)
+  kept q (p ∷ ps) h = kept_by (is_assumption env p) p q ps refl (kept q ps) h
+
+  keep_by : (b : Bool) (p q : ℕ) (ps : List ℕ) → is_assumption env p ≡ b → is_assumption env q ≡ true →
+      (has ps q ≡ true → has (assumptions env ps) q ≡ true) → has (p ∷ ps) q ≡ true →
+      has (cond b (p ∷ assumptions env ps) (assumptions env ps)) q ≡ true
+  keep_by true p q ps is a f h = by (split p q (has ps q) h) where
+    by : Has q p (has ps q) → has (p ∷ assumptions env ps) q ≡ true
+    by (Is e) = here p q (has (assumptions env ps) q) e
+    by (More g) = there p q (has (assumptions env ps) q) (f g)
+  keep_by false p q ps is a f h = by (split p q (has ps q) h) where
+    by : Has q p (has ps q) → has (assumptions env ps) q ≡ true
+    by (Is e) = let at : is_assumption env p ≡ true = rw e a in absurd (clash (is_assumption env p) is at)
+    by (More g) = f g
+
+  keep : (q : ℕ) (ps : List ℕ) → is_assumption env q ≡ true → has ps q ≡ true → has (assumptions env ps) q ≡ true
+  keep q [] a h = absurd (never h)
+  keep q (p ∷ ps) a h = keep_by (is_assumption env p) p q ps refl a (keep q ps a) h
+
+  -- what an entry's names start is what it reaches
+  started : (p q : ℕ) → AreBefore p (used_at env p) → Reaches env p q → Starts env (used_at env p) p q
+  started p q before (Uses u) = Stands (below q p (used_at env p) before u) u
+  started p q before (UsesFurther u r) = Goes _ (below _ p (used_at env p) before u) u r
+
+  reaches : (p q : ℕ) → Starts env (used_at env p) p q → Reaches env p q
+  reaches p q (Stands lt m) = Uses m
+  reaches p q (Goes n lt m r) = UsesFurther m r
+
+  only_reached : (place q : ℕ) → has (axioms env place) q ≡ true → (is_assumption env q ≡ true) × Reaches env place q
+  only_reached place q h =
+      let k = kept q (reached env place (used_at env place)) h in
+      (k.1, reaches place q (from_reached place q (used_at env place) k.0))
+
+  all_reached : UsesBefore env → (place q : ℕ) → (is_assumption env q ≡ true) × Reaches env place q → has (axioms env place) q ≡ true
+  all_reached all place q h =
+      keep q (reached env place (used_at env place)) h.0 (reached_from all place q (used_at env place) (started place q (all place) h.1))
+
+pub axioms_are_reached : AxiomsAreReached
+axioms_are_reached env all place q = (only_reached env place q, all_reached env all place q)
