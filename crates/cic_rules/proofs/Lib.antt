@@ -5,3 +5,4 @@ pub mod IndexLaws
 pub mod NamesLaws
 pub mod PlaceLaws
 pub mod Samples
+pub mod ReachLaws
