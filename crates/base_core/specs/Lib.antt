@@ -5,4 +5,5 @@ pub mod MemSink
 pub mod MemFiles
 pub mod Fit
 pub mod Link
+pub mod Items
 pub mod ScriptLink

@@ -1,50 +1,66 @@
--- What a link in memory gave.
-use Rattle.std.specs.Prelude.{◌≡◌, ℕ, ◌+◌, ◌<◌, ◌≤◌, Bool, false, List, [], length, map, take, drop, get_or}
+-- What a link in memory gives.
+use Rattle.std.specs.Prelude.{◌≡◌, ℕ, ◌+◌, ◌-◌, ◌^◌, ◌<◌, ◌≤◌, min, Bool, List, [], ◌∷◌, ◌++◌, length, map}
+use Rattle.base_core.specs.declared.link.Taken.{Taken}
+use Rattle.base_core.specs.declared.link.Taken.TheVariants as taken
 use Rattle.base_core.specs.declared.script_link.Item.{Item}
-use Rattle.base_core.specs.declared.script_link.Item.TheVariants as item
-use Rattle.base_core.specs.declared.script_link.Given.{Given}
-use Rattle.base_core.specs.declared.script_link.Given.TheVariants as given
-use Rattle.base_core.specs.declared.script_link.Note.{Note}
 use Rattle.base_core.specs.declared.script_link.ScriptLink.{ScriptLink}
 use Rattle.base_core.specs.Link.{Seen, Bytes, Nothing, Ended, Fault, Poll, poll}
-
--- the bytes of an item
-abbrev pub item_bytes : Item → List ℕ
-item_bytes (item.Piece bytes) = bytes
-item_bytes item.Idle = []
-item_bytes item.Fail = []
-
--- the bytes of the item at a place
-abbrev pub piece_at : List Item → ℕ → List ℕ
-piece_at items at = item_bytes (get_or items at item.Idle)
-
--- what was given, of these items
-abbrev pub seen_of : List Item → Given → Seen
-seen_of items (given.Got at from count) = Bytes (take count (drop from (piece_at items at)))
-seen_of items (given.Idle at) = Nothing
-seen_of items (given.Fail at) = Fault
-seen_of items given.End = Ended
-
--- what a poll for at most `room` bytes may be given: bytes of one item, at least one; nothing only where it
--- does not wait
-abbrev pub IsGiven : List Item → Bool → ℕ → Given → Type 0
-IsGiven items wait room (given.Got at from count) = (at < length items) × (0 < count) × (count ≤ room) × (from + count ≤ length (piece_at items at))
-IsGiven items wait room (given.Idle at) = wait ≡ false
-IsGiven items wait room (given.Fail at) = Unit {0}
-IsGiven items wait room given.End = Unit {0}
-
--- a poll as it is noted
-abbrev pub poll_of : List Item → Note → Poll
-poll_of items note = poll note.wait (seen_of items note.given)
+use Rattle.base_core.specs.Items.{next_of, left_from, poll_of}
 
 -- the items in order
 abbrev pub link_items : ScriptLink → List Item
 link_items s = s.items
 
+-- the items that are left
+abbrev pub link_left : ScriptLink → List Item
+link_left s = left_from s.items s.place.at s.place.used
+
 -- the polls so far
 abbrev pub link_polls : ScriptLink → List Poll
 link_polls s = map (poll_of s.items) s.notes.items
 
+-- for how many polls it has room in all
+abbrev pub link_room : ScriptLink → ℕ
+link_room s = s.room
+
 -- how often it has failed
 abbrev pub link_faults : ScriptLink → ℕ
 link_faults s = s.faults
+
+-- the answer of a poll that saw this
+abbrev pub answer_of : Seen → Taken
+answer_of (Bytes bytes) = taken.Got (length bytes)
+answer_of Nothing = taken.Idle
+answer_of Ended = taken.End
+answer_of Fault = taken.Failed
+
+-- one failure more, up to the end of the count's type
+abbrev pub one_more : ℕ → ℕ
+one_more faults = min (faults + 1) (2 ^ 64 - 1)
+
+-- the failures behind a poll that saw this
+abbrev pub faults_after : Seen → ℕ → ℕ
+faults_after (Bytes bytes) faults = faults
+faults_after Nothing faults = faults
+faults_after Ended faults = faults
+faults_after Fault faults = one_more faults
+
+-- a poll gives what is next, and is noted
+pub record Gives (waits : Bool) (asked : ℕ) (answer : Taken) (old new : ScriptLink) : Type 0 where
+  pub answers : answer ≡ answer_of (next_of (link_left old) waits asked).seen
+  pub left : link_left new ≡ (next_of (link_left old) waits asked).left
+  pub polls : link_polls new ≡ link_polls old ++ poll waits (next_of (link_left old) waits asked).seen ∷ []
+  pub faults : link_faults new ≡ faults_after (next_of (link_left old) waits asked).seen (link_faults old)
+
+-- a poll that can't be noted fails, and gives nothing
+pub record Refuses (answer : Taken) (old new : ScriptLink) : Type 0 where
+  pub answers : answer ≡ taken.Failed
+  pub left : link_left new ≡ link_left old
+  pub polls : link_polls new ≡ link_polls old
+  pub faults : link_faults new ≡ one_more (link_faults old)
+
+-- a poll: it gives what is next while there is room to note it
+pub record Polls (waits : Bool) (asked : ℕ) (answer : Taken) (old new : ScriptLink) : Type 0 where
+  pub room : link_room new ≡ link_room old
+  pub given : length (link_polls old) < link_room old → Gives waits asked answer old new
+  pub full : link_room old ≤ length (link_polls old) → Refuses answer old new

@@ -1,7 +1,6 @@
-ghost use Rattle.std.specs.Prelude.{◌≡◌, ◌++◌, ◌∷◌, [], ◌≤◌, ◌<◌, Some, IfOk, OnOk, OnErr};
+ghost use Rattle.std.specs.Prelude.{◌≡◌, ◌++◌, ◌∷◌, [], ◌≤◌, ◌<◌, length, vec_capacity, IfOk, OnOk, IsTrue, ◌↔◌};
 ghost use Rattle.base_core.specs.Link.{poll};
-ghost use Rattle.base_core.specs.Faults.{Rose};
-ghost use Rattle.base_core.specs.ScriptLink.{IsGiven, item_bytes, seen_of, link_items, link_polls, link_faults};
+ghost use Rattle.base_core.specs.Items.{next_of, left_from, IsGiven, item_bytes, seen_of};
 
 use crate::{Bytes, Link, NoMem, Taken};
 use std::alloc::Global;
@@ -55,21 +54,23 @@ impl ItemList {
     }
 }
 
-/// What a poll gave, by the place of its item.
+/// What a poll gave. Bytes are named by their place, so that noting them takes no memory.
 #[derive(Clone, Copy, Debug, Drop)]
 enum Given {
-    /// So many bytes of the piece at a place, from this one on.
-    Got {
-        at: usize,
-        from: usize,
-        count: usize,
-    },
-    Idle(usize),
-    Fail(usize),
+    /// The bytes of the piece at a place, from this one up to that.
+    Got { at: usize, from: usize, to: usize },
+    Idle,
+    Fail,
     End,
 }
 
-/// A poll. It names places, so that noting it takes no memory.
+/// A place among items: those before it are used up, and so many bytes of the one there.
+#[derive(Clone, Copy, Debug, Drop)]
+struct Place {
+    at: usize,
+    used: usize,
+}
+
 #[derive(Clone, Copy, Debug, Drop)]
 struct Note {
     wait: bool,
@@ -80,11 +81,11 @@ struct Note {
 #[derive(Debug, Drop)]
 pub struct ScriptLink {
     items: ItemList,
-    at: usize,
-    used: usize,
+    place: Place,
     notes: Vec<Note>,
     room: usize,
     faults: u64,
+    ghost reserved: { room ≤ vec_capacity notes },
 }
 
 fn piece_of(item: &Item) -> &[u8]
@@ -96,38 +97,50 @@ fn piece_of(item: &Item) -> &[u8]
     }
 }
 
-/// What a poll for at most `room` bytes gives, where the items before `start` are used up and so many
-/// bytes of the one there.
-fn next(items: &[Item], wait: bool, start: usize, used: usize, room: usize) -> Given
+/// What a poll for at most `room` bytes gives, and the place behind it.
+fn next(items: &[Item], wait: bool, place: Place, room: usize) -> (Given, Place)
     requires { 0 < room }
-    ensures { IsGiven items.now wait room result }
+    ensures within { IsGiven items.now wait room result.0 }
+    ensures given { next_of (left_from items.now place.at place.used) wait room ≡ record { seen = seen_of items.now result.0; left = left_from items.now result.1.at result.1.used } }
 {
-    let mut from = used;
-    for at in start..items.len() {
-        let left = piece_of(&items[at]).len().saturating_sub(from);
+    let mut used = place.used;
+    for at in place.at..items.len() {
+        let left = piece_of(&items[at]).len().saturating_sub(used);
         if left > 0 {
-            let count = room.min(left);
-            return Given::Got { at, from, count };
+            let to = used + room.min(left);
+            let given = Given::Got { at, from: used, to };
+            return (given, Place { at, used: to });
         }
+        let past = Place {
+            at: at + 1,
+            used: 0,
+        };
         match &items[at] {
-            Item::Idle if !wait => return Given::Idle(at),
-            Item::Fail => return Given::Fail(at),
-            _ => from = 0,
+            Item::Idle if !wait => return (Given::Idle, past),
+            Item::Fail => return (Given::Fail, past),
+            _ => used = 0,
         }
     }
-    Given::End
+    let past = Place {
+        at: items.len(),
+        used: 0,
+    };
+    (Given::End, past)
 }
 
 impl ScriptLink {
+    ghost use Rattle.base_core.specs.ScriptLink.{link_items, link_left, link_polls, link_room, link_faults, one_more, Refuses};
+
     /// Room for so many polls. The link fails at each `Item::Fail`, and when the room is full.
     pub fn new(alloc: Global, items: ItemList, room: usize) -> Result<ScriptLink, NoMem>
-        ensures { IfOk result (λ s. (link_polls s ≡ []) × (link_faults s ≡ 0)) }
+        ensures items { IfOk result (λ s. link_left s ≡ items) }
+        ensures room { IfOk result (λ s. link_room s ≡ room) }
+        ensures begun { IfOk result (λ s. (link_polls s ≡ []) × (link_faults s ≡ 0)) }
     {
         let notes = Vec::with_capacity(alloc, room)?;
         Ok(ScriptLink {
             items,
-            at: 0,
-            used: 0,
+            place: Place { at: 0, used: 0 },
             notes,
             room,
             faults: 0,
@@ -141,68 +154,79 @@ impl ScriptLink {
         self.faults
     }
 
+    fn is_full(&self) -> bool
+        ensures full { IsTrue result ↔ (link_room self.now ≤ length (link_polls self.now)) }
+    {
+        self.notes.len() >= self.room
+    }
+
     fn fail(&mut self) -> Taken
-        ensures failed { result ≡ Taken.Failed }
-        ensures same { link_polls self.new ≡ link_polls self.old }
-        ensures risen { Rose (link_faults self.old) (link_faults self.new) }
+        ensures refused { Refuses result self.old self.new }
         ensures later { link_faults self.old ≤ link_faults self.new }
+        ensures room { link_room self.new ≡ link_room self.old }
     {
         self.faults = self.faults.saturating_add(1);
         Taken::Failed
     }
 
-    fn go_past(&mut self, given: Given)
-        ensures polls { link_polls self.new ≡ link_polls self.old }
+    /// Notes a poll and goes to the place behind what it gave.
+    fn note(&mut self, wait: bool, given: Given, place: Place)
+        requires { length (link_polls self.old) < link_room self.old }
         ensures items { link_items self.new ≡ link_items self.old }
+        ensures room { link_room self.new ≡ link_room self.old }
         ensures faults { link_faults self.new ≡ link_faults self.old }
+        ensures left { link_left self.new ≡ left_from (link_items self.old) place.at place.used }
+        ensures polls { link_polls self.new ≡ link_polls self.old ++ poll wait (seen_of (link_items self.old) given) ∷ [] }
     {
-        (self.at, self.used) = match given {
-            Given::Got { at, from, count } => (at, from.saturating_add(count)),
-            Given::Idle(at) | Given::Fail(at) => (at.saturating_add(1), 0),
-            Given::End => (self.items.as_slice().len(), 0),
-        };
-    }
-
-    fn note(&mut self, wait: bool, given: Given) -> Result<(), NoMem>
-        ensures items { link_items self.new ≡ link_items self.old }
-        ensures faults { link_faults self.new ≡ link_faults self.old }
-        ensures ok { OnOk result (link_polls self.new ≡ link_polls self.old ++ poll wait (seen_of (link_items self.old) given) ∷ []) }
-        ensures err { OnErr result (link_polls self.new ≡ link_polls self.old) }
-    {
-        if self.notes.len() >= self.room {
-            return Err(NoMem);
+        self.place = place;
+        match self.notes.push(Note { wait, given }) {
+            Ok(()) => {}
+            Err(_) => unreachable!(),
         }
-        self.notes.push(Note { wait, given })?;
-        self.go_past(given);
-        Ok(())
     }
 
-    fn next(&self, wait: bool, room: usize) -> Given
-        requires { 0 < room }
-        ensures { IsGiven (link_items self.now) wait room result }
+    fn next(&self, wait: bool, asked: usize) -> (Given, Place)
+        requires { 0 < asked }
+        ensures within { IsGiven (link_items self.now) wait asked result.0 }
+        ensures given { next_of (link_left self.now) wait asked ≡ record { seen = seen_of (link_items self.now) result.0; left = left_from (link_items self.now) result.1.at result.1.used } }
     {
-        next(self.items.as_slice(), wait, self.at, self.used, room)
+        next(self.items.as_slice(), wait, self.place, asked)
     }
 }
 
 impl Link for ScriptLink {
+    ghost use Rattle.std.specs.Prelude.{Some};
+    ghost use Rattle.base_core.specs.Link.{TakenFrom};
+    ghost use Rattle.base_core.specs.Faults.{Rose};
+    ghost use Rattle.base_core.specs.ScriptLink.{link_polls, link_faults, Polls};
+
     ghost polls = { λ s. Some (link_polls s) };
 
     ghost faults = { λ s. link_faults s };
 
-    fn poll(&mut self, wait: bool, buf: &mut [u8]) -> Taken {
-        let given = self.next(wait, buf.len());
-        if self.note(wait, given).is_err() {
+    fn poll(&mut self, wait: bool, buf: &mut [u8]) -> Taken
+        requires { 0 < length buf.old }
+        ensures told { TakenFrom result wait buf.new (Some (link_polls self.old)) (Some (link_polls self.new)) }
+        ensures later { link_faults self.old ≤ link_faults self.new }
+        ensures failed { result ≡ Taken.Failed → Rose (link_faults self.old) (link_faults self.new) }
+
+        // It gives the next items while there is room to note a poll, and else fails.
+        ensures exact { Polls wait (length buf.old) result self.old self.new }
+    {
+        if self.is_full() {
             return self.fail();
         }
+        let (given, place) = self.next(wait, buf.len());
+        self.note(wait, given, place);
         match given {
-            Given::Got { at, from, count } => {
+            Given::Got { at, from, to } => {
+                let count = to - from;
                 let piece = piece_of(&self.items.as_slice()[at]);
-                buf[..count].copy_from_slice(&piece[from..from + count]);
+                buf[..count].copy_from_slice(&piece[from..to]);
                 Taken::Got(count)
             }
-            Given::Idle(_) => Taken::Idle,
-            Given::Fail(_) => {
+            Given::Idle => Taken::Idle,
+            Given::Fail => {
                 self.faults = self.faults.saturating_add(1);
                 Taken::Failed
             }
