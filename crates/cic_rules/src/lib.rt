@@ -19,4 +19,6 @@ pub use judge::{Answer, Declares, Inferred, Judge, Mode};
 pub use laws::{law_of_axioms, law_of_names};
 
 #[cfg(test)]
+mod family_tests;
+#[cfg(test)]
 mod tests;
