@@ -6,3 +6,4 @@ pub mod NamesLaws
 pub mod PlaceLaws
 pub mod Samples
 pub mod ReachLaws
+pub mod RowLaws

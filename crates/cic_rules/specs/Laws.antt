@@ -1,10 +1,13 @@
 -- Laws of the definitions.
-use Rattle.std.specs.Prelude.{ℕ, ◌↔◌, List, IsTrue}
+use Rattle.std.specs.Prelude.{◌≡◌, ℕ, ◌↔◌, List, IsTrue}
 use Rattle.core_term.specs.Tree.{Tree}
 use Rattle.cic_rules.specs.declared.context.Hyp.{Hyp}
 use Rattle.cic_rules.specs.declared.env.Slot.{Slot}
 use Rattle.cic_rules.specs.Environments.{has, AreBefore, IsAscending}
 use Rattle.cic_rules.specs.Derive.{IsFormed, Derives}
+use Rattle.cic_rules.specs.Infer.{Sorted, sorted, sort_of_at}
+use Rattle.cic_rules.specs.Inductive.{RowSorted, row_at}
+use Rattle.cic_rules.specs.Runs.{Ran, done, then_do}
 use Rattle.cic_rules.specs.Grounded.{used_at, is_assumption, axioms, Reaches}
 
 -- the second list has each name of the first
@@ -29,3 +32,12 @@ UsesBefore env = (place : ℕ) → AreBefore place (used_at env place)
 abbrev pub AxiomsAreReached : Type 0
 AxiomsAreReached = (env : List Slot) → UsesBefore env → (place q : ℕ) →
     IsTrue (has (axioms env place) q) ↔ ((IsTrue (is_assumption env q)) × Reaches env place q)
+
+-- the sort of a row of products, without the sorts of its domains
+abbrev pub domains_forgotten : RowSorted → ℕ → Ran Sorted
+domains_forgotten r left = done (sorted r.sort r.used) left
+
+-- a row of products is sorted as each type is: by the same answer, with the same names and for the same units
+abbrev pub RowsAreSorted : Type 0
+RowsAreSorted = (env : List Slot) (calls : ℕ) (ctx : List Hyp) (t : Tree) (left : ℕ) →
+    then_do (row_at env calls ctx t left) domains_forgotten ≡ sort_of_at env calls ctx t left

@@ -1,7 +1,7 @@
 //! Laws of the definitions that the other clauses cite, for the proofs above this crate. Each
 //! function does nothing.
 
-ghost use Rattle.cic_rules.specs.Laws.{NamesMayGrow, AxiomsAscend, AxiomsAreReached};
+ghost use Rattle.cic_rules.specs.Laws.{NamesMayGrow, AxiomsAscend, AxiomsAreReached, RowsAreSorted};
 
 /// What is derived over some names is derived over every list that has them.
 pub fn law_of_names()
@@ -13,4 +13,10 @@ pub fn law_of_names()
 pub fn law_of_axioms()
     ensures ascend { AxiomsAscend }
     ensures reached { AxiomsAreReached }
+{}
+
+/// The test of an inductive type finds the sort of a constructor's type as inference does, with
+/// the same names and for the same units; the sorts of its arguments cost nothing more.
+pub fn law_of_rows()
+    ensures { RowsAreSorted }
 {}
