@@ -3,7 +3,7 @@ use Rattle.std.specs.Prelude.{◌≡◌, ℕ, ◌↔◌, List, IsTrue}
 use Rattle.core_term.specs.Tree.{Tree}
 use Rattle.cic_rules.specs.declared.context.Hyp.{Hyp}
 use Rattle.cic_rules.specs.declared.env.Slot.{Slot}
-use Rattle.cic_rules.specs.Environments.{has, AreBefore, IsAscending}
+use Rattle.cic_rules.specs.Environments.{has, AreBefore, IsAscending, IsEnvironment}
 use Rattle.cic_rules.specs.Derive.{IsFormed, Derives}
 use Rattle.cic_rules.specs.Infer.{Sorted, sorted, sort_of_at}
 use Rattle.cic_rules.specs.Inductive.{RowSorted, row_at}
@@ -28,7 +28,11 @@ AxiomsAscend = (env : List Slot) (place : ℕ) → IsAscending (axioms env place
 abbrev pub UsesBefore : List Slot → Type 0
 UsesBefore env = (place : ℕ) → AreBefore place (used_at env place)
 
--- then the axioms of an entry are exactly the assumptions and admitted theorems that it reaches through the names used
+-- which is so in each environment that the program holds
+abbrev pub EntriesUseBefore : Type 0
+EntriesUseBefore = (env : List Slot) → IsEnvironment env → UsesBefore env
+
+-- where that is so, the axioms of an entry are exactly the assumptions and admitted theorems that it reaches through the names used
 abbrev pub AxiomsAreReached : Type 0
 AxiomsAreReached = (env : List Slot) → UsesBefore env → (place q : ℕ) →
     IsTrue (has (axioms env place) q) ↔ ((IsTrue (is_assumption env q)) × Reaches env place q)

@@ -1,7 +1,7 @@
 //! Laws of the definitions that the other clauses cite, for the proofs above this crate. Each
 //! function does nothing.
 
-ghost use Rattle.cic_rules.specs.Laws.{NamesMayGrow, AxiomsAscend, AxiomsAreReached, RowsAreSorted};
+ghost use Rattle.cic_rules.specs.Laws.{NamesMayGrow, AxiomsAscend, EntriesUseBefore, AxiomsAreReached, RowsAreSorted};
 
 /// What is derived over some names is derived over every list that has them.
 pub fn law_of_names()
@@ -12,6 +12,7 @@ pub fn law_of_names()
 /// theorems that it reaches.
 pub fn law_of_axioms()
     ensures ascend { AxiomsAscend }
+    ensures before { EntriesUseBefore }
     ensures reached { AxiomsAreReached }
 {}
 
