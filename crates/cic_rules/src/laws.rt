@@ -1,7 +1,7 @@
 //! Laws of the definitions that the other clauses cite, for the proofs above this crate. Each
 //! function does nothing.
 
-ghost use Rattle.cic_rules.specs.Laws.{NamesMayGrow, AxiomsAscend, EntriesUseBefore, AxiomsAreReached, RowsAreSorted};
+ghost use Rattle.cic_rules.specs.Laws.{NamesMayGrow, AxiomsAscend, EntriesUseBefore, AxiomsAreReached, RowsAreSorted, FuelOfReduction, FuelOfConversion};
 
 /// What is derived over some names is derived over every list that has them.
 pub fn law_of_names()
@@ -20,4 +20,11 @@ pub fn law_of_axioms()
 /// the same names and for the same units; the sorts of its arguments cost nothing more.
 pub fn law_of_rows()
     ensures { RowsAreSorted }
+{}
+
+/// Under a lower limit a judgement answers the same for as many units, or it ends at the limit of
+/// units, and under the higher one it spends more than the lower.
+pub fn law_of_fuel()
+    ensures reduction { FuelOfReduction }
+    ensures conversion { FuelOfConversion }
 {}
