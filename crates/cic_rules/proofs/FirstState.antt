@@ -1,16 +1,19 @@
 -- The ten sentences of the first state as declarations, and what they give, proved by computation.
-use Rattle.std.specs.Prelude.{◌≡◌, ℕ, List, [], ◌∷◌, length, Bool, true, false, Some, Result, Ok, Err, refl}
+use Rattle.std.specs.Prelude.{◌≡◌, ℕ, List, [], ◌∷◌, ◌++◌, length, true, false, Option, Some, Result, Ok, Err, refl}
 use Rattle.base_core.specs.declared.refusals.Stop.{Stop}
+use Rattle.core_term.specs.declared.sorts.Sort.{Sort}
 use Rattle.core_term.specs.declared.sorts.Sort.TheVariants.{PropSort, SetSort, TypeSort}
 use Rattle.core_term.specs.Tree.{Tree, Variable, Universe, Const, Product, Lambda, Apply}
 use Rattle.cic_rules.specs.declared.context.Hyp.{Hyp}
 use Rattle.cic_rules.specs.declared.decls.Decl.{Decl}
 use Rattle.cic_rules.specs.declared.decls.Decl.TheVariants.{Define, Induct}
 use Rattle.cic_rules.specs.declared.decls.Ctor.{Ctor}
+use Rattle.cic_rules.specs.declared.entries.Entry.{Entry}
+use Rattle.cic_rules.specs.declared.entries.EntryKind.TheVariants.{Eliminator}
 use Rattle.cic_rules.specs.declared.env.Slot.{Slot}
 use Rattle.cic_rules.specs.declared.judge.Mode.TheVariants.{Same}
 use Rattle.cic_rules.specs.Contexts.{plain_hyp}
-use Rattle.cic_rules.specs.Environments.{type_of_global}
+use Rattle.cic_rules.specs.Environments.{entry_at}
 use Rattle.cic_rules.specs.Runs.{Ran, refused, done, then_do, repeat}
 use Rattle.cic_rules.specs.Reduce.{whnf_at}
 use Rattle.cic_rules.specs.Convert.{conv_at, blocker_at}
@@ -26,6 +29,9 @@ declare_all (d ∷ ds) env left = then_do (declare_at env 2000 d left) (declare_
 
 abbrev PROP : Tree
 PROP = Universe PropSort
+
+abbrev SET : Tree
+SET = Universe SetSort
 
 abbrev TYPE : Tree
 TYPE = Universe (TypeSort 1)
@@ -100,39 +106,97 @@ prelude_length : length (environment_of first_state.answer) ≡ 40
 unfolding repeat whnf_at conv_at blocker_at infer_at row_at
 prelude_length = refl
 
+-- what stands at some places of the first state
+abbrev found : List ℕ → List (Option Entry)
+found [] = []
+found (p ∷ ps) = entry_at (environment_of first_state.answer) p ∷ found ps
+
+-- an eliminator of the family at a place, into a sort
+abbrev eliminator : List ℕ → Tree → ℕ → Sort → Option Entry
+eliminator name ty place sort = Some (record { name = name; ty = ty; kind = Eliminator place sort; used = place ∷ [] })
+
+-- its name with _ind, and its type at Prop
+abbrev into_prop : List ℕ → ℕ → (Tree → Tree) → Option Entry
+into_prop name place ty = eliminator (name ++ (95 ∷ 105 ∷ 110 ∷ 100 ∷ [])) (ty PROP) place PropSort
+
+-- .. and those of _rec at Set and _rect at Type
+abbrev into_all : List ℕ → ℕ → (Tree → Tree) → List (Option Entry)
+into_all name place ty =
+    into_prop name place ty
+    ∷ eliminator (name ++ (95 ∷ 114 ∷ 101 ∷ 99 ∷ [])) (ty SET) place SetSort
+    ∷ eliminator (name ++ (95 ∷ 114 ∷ 101 ∷ 99 ∷ 116 ∷ [])) (ty TYPE) place (TypeSort 1)
+    ∷ []
+
+-- forall P : Prop, False -> P, where False is f
+false_eliminators : found (1 ∷ 2 ∷ 3 ∷ []) ≡ into_all (70 ∷ 97 ∷ 108 ∷ 115 ∷ 101 ∷ []) 0 (λ sort.
+    Product (80 ∷ []) sort (Product (102 ∷ []) (Const 0) (Variable 1)))
+unfolding repeat whnf_at conv_at blocker_at infer_at row_at
+false_eliminators = refl
+
+-- forall P : Prop, P -> True -> P
+true_eliminators : found (6 ∷ 7 ∷ 8 ∷ []) ≡ into_all (84 ∷ 114 ∷ 117 ∷ 101 ∷ []) 4 (λ sort.
+    Product (80 ∷ []) sort (Product (102 ∷ 95 ∷ 73 ∷ []) (Variable 0) (Product (116 ∷ []) (Const 4) (Variable 2))))
+unfolding repeat whnf_at conv_at blocker_at infer_at row_at
+true_eliminators = refl
+
+-- forall (A B P : Prop), (A -> B -> P) -> and A B -> P
+and_eliminators : found (11 ∷ 12 ∷ 13 ∷ []) ≡ into_all (97 ∷ 110 ∷ 100 ∷ []) 9 (λ sort.
+    Product (65 ∷ []) PROP (Product (66 ∷ []) PROP (Product (80 ∷ []) sort
+    (Product (102 ∷ 95 ∷ 99 ∷ 111 ∷ 110 ∷ 106 ∷ []) (Product (72 ∷ []) (Variable 2) (Product (72 ∷ 48 ∷ []) (Variable 2) (Variable 2)))
+    (Product (97 ∷ []) (apply2 (Const 9) (Variable 3) (Variable 2)) (Variable 2))))))
+unfolding repeat whnf_at conv_at blocker_at infer_at row_at
+and_eliminators = refl
+
+-- forall A B P : Prop, (A -> P) -> (B -> P) -> or A B -> P, into Prop alone
+or_eliminator : found (17 ∷ []) ≡ into_prop (111 ∷ 114 ∷ []) 14 (λ sort.
+    Product (65 ∷ []) PROP (Product (66 ∷ []) PROP (Product (80 ∷ []) sort
+    (Product (102 ∷ 95 ∷ 111 ∷ 114 ∷ 95 ∷ 105 ∷ 110 ∷ 116 ∷ 114 ∷ 111 ∷ 108 ∷ []) (Product (72 ∷ []) (Variable 2) (Variable 1))
+    (Product (102 ∷ 95 ∷ 111 ∷ 114 ∷ 95 ∷ 105 ∷ 110 ∷ 116 ∷ 114 ∷ 111 ∷ 114 ∷ []) (Product (72 ∷ []) (Variable 2) (Variable 2))
+    (Product (111 ∷ []) (apply2 (Const 14) (Variable 4) (Variable 3)) (Variable 3))))))) ∷ []
+unfolding repeat whnf_at conv_at blocker_at infer_at row_at
+or_eliminator = refl
+
+-- forall (A : Type) (x : A) (P : A -> Prop), P x -> forall x0 : A, eq A x x0 -> P x0, where the index has no name
+eq_eliminators : found (21 ∷ 22 ∷ 23 ∷ []) ≡ into_all (101 ∷ 113 ∷ []) 19 (λ sort.
+    Product (65 ∷ []) TYPE (Product (120 ∷ []) (Variable 0)
+    (Product (80 ∷ []) (arrow (Variable 1) sort)
+    (Product (102 ∷ 95 ∷ 101 ∷ 113 ∷ 95 ∷ 114 ∷ 101 ∷ 102 ∷ 108 ∷ []) (Apply (Variable 0) (Variable 1))
+    (arrow (Variable 3) (Product (101 ∷ []) (Apply (apply2 (Const 19) (Variable 4) (Variable 3)) (Variable 0)) (Apply (Variable 3) (Variable 1))))))))
+unfolding repeat whnf_at conv_at blocker_at infer_at row_at
+eq_eliminators = refl
+
+-- forall (A : Type) (P : A -> Prop) (P0 : Prop), (forall x : A, P x -> P0) -> ex A P -> P0, into Prop alone; the motive is named P too
+ex_eliminator : found (26 ∷ []) ≡ into_prop (101 ∷ 120 ∷ []) 24 (λ sort.
+    Product (65 ∷ []) TYPE (Product (80 ∷ []) (arrow (Variable 0) PROP) (Product (80 ∷ []) sort
+    (Product (102 ∷ 95 ∷ 101 ∷ 120 ∷ 95 ∷ 105 ∷ 110 ∷ 116 ∷ 114 ∷ 111 ∷ [])
+    (Product (120 ∷ []) (Variable 2) (Product (72 ∷ []) (Apply (Variable 2) (Variable 0)) (Variable 2)))
+    (Product (101 ∷ []) (apply2 (Const 24) (Variable 3) (Variable 2)) (Variable 2)))))) ∷ []
+unfolding repeat whnf_at conv_at blocker_at infer_at row_at
+ex_eliminator = refl
+
+-- forall P : bool -> Prop, P true -> P false -> forall b : bool, P b
+bool_eliminators : found (30 ∷ 31 ∷ 32 ∷ []) ≡ into_all (98 ∷ 111 ∷ 111 ∷ 108 ∷ []) 27 (λ sort.
+    Product (80 ∷ []) (Product (98 ∷ []) (Const 27) sort)
+    (Product (102 ∷ 95 ∷ 116 ∷ 114 ∷ 117 ∷ 101 ∷ []) (Apply (Variable 0) (Const 28))
+    (Product (102 ∷ 95 ∷ 102 ∷ 97 ∷ 108 ∷ 115 ∷ 101 ∷ []) (Apply (Variable 1) (Const 29))
+    (Product (98 ∷ []) (Const 27) (Apply (Variable 3) (Variable 0))))))
+unfolding repeat whnf_at conv_at blocker_at infer_at row_at
+bool_eliminators = refl
+
 -- forall P : nat -> Prop, P O -> (forall n : nat, P n -> P (S n)) -> forall n : nat, P n
-nat_ind_type : type_of_global (environment_of first_state.answer) 36 ≡ Some (Product (80 ∷ []) (Product (110 ∷ []) NAT PROP)
+nat_eliminators : found (36 ∷ 37 ∷ 38 ∷ []) ≡ into_all (110 ∷ 97 ∷ 116 ∷ []) 33 (λ sort.
+    Product (80 ∷ []) (Product (110 ∷ []) NAT sort)
     (Product (102 ∷ 95 ∷ 79 ∷ []) (Apply (Variable 0) O)
     (Product (102 ∷ 95 ∷ 83 ∷ []) (Product (110 ∷ []) NAT (Product (73 ∷ 72 ∷ 110 ∷ []) (Apply (Variable 2) (Variable 0)) (Apply (Variable 3) (Apply S (Variable 1)))))
     (Product (110 ∷ []) NAT (Apply (Variable 3) (Variable 0))))))
 unfolding repeat whnf_at conv_at blocker_at infer_at row_at
-nat_ind_type = refl
+nat_eliminators = refl
 
--- forall (A B P : Prop), (A -> B -> P) -> and A B -> P
-and_ind_type : type_of_global (environment_of first_state.answer) 11 ≡ Some (Product (65 ∷ []) PROP (Product (66 ∷ []) PROP (Product (80 ∷ []) PROP
-    (Product (102 ∷ 95 ∷ 99 ∷ 111 ∷ 110 ∷ 106 ∷ []) (Product (72 ∷ []) (Variable 2) (Product (72 ∷ 48 ∷ []) (Variable 2) (Variable 2)))
-    (Product (97 ∷ []) (apply2 (Const 9) (Variable 3) (Variable 2)) (Variable 2))))))
-unfolding repeat whnf_at conv_at blocker_at infer_at row_at
-and_ind_type = refl
-
--- forall (A : Type) (x : A) (P : A -> Prop), P x -> forall x0 : A, eq A x x0 -> P x0, where the index has no name
-eq_ind_type : type_of_global (environment_of first_state.answer) 21 ≡ Some (Product (65 ∷ []) TYPE (Product (120 ∷ []) (Variable 0)
-    (Product (80 ∷ []) (arrow (Variable 1) PROP)
-    (Product (102 ∷ 95 ∷ 101 ∷ 113 ∷ 95 ∷ 114 ∷ 101 ∷ 102 ∷ 108 ∷ []) (Apply (Variable 0) (Variable 1))
-    (arrow (Variable 3) (Product (101 ∷ []) (Apply (apply2 (Const 19) (Variable 4) (Variable 3)) (Variable 0)) (Apply (Variable 3) (Variable 1))))))))
-unfolding repeat whnf_at conv_at blocker_at infer_at row_at
-eq_ind_type = refl
-
-abbrev answer_of : Ran Bool → Result Bool Stop
-answer_of r = r.answer
-
--- 2 + 1 = 3
-two_and_one : answer_of (conv_at (environment_of first_state.answer) 2000 [] Same (apply2 PLUS (Apply S (Apply S O)) (Apply S O)) (Apply S (Apply S (Apply S O))) 1000000) ≡ Ok true
+-- 2 + 1 = 3: a unit for the sizes, one for plus, 20 and 22 for its two arguments; for each S of 2 one for iota, 6 and 4 for the
+-- arguments of its case, and one for the sizes that are left; last one for iota at O, and one for O and O
+two_and_one : conv_at (environment_of first_state.answer) 2000 [] Same (apply2 PLUS (Apply S (Apply S O)) (Apply S O)) (Apply S (Apply S (Apply S O))) 1000000 ≡ done true 999930
 unfolding repeat whnf_at conv_at blocker_at infer_at row_at
 two_and_one = refl
-
-abbrev SET : Tree
-SET = Universe SetSort
 
 -- an inductive type T, at place 40, whose only constructor c has this type
 abbrev one_constructor : Tree → Decl

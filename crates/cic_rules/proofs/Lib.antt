@@ -1,8 +1,11 @@
 pub mod AxiomLaws
 pub mod ContextLaws
 pub mod FirstState
+pub mod FuelLaws
 pub mod IndexLaws
+pub mod JudgeFuelLaws
 pub mod NamesLaws
 pub mod PlaceLaws
 pub mod Samples
 pub mod ReachLaws
+pub mod RowLaws

@@ -1,7 +1,7 @@
 //! Laws of the definitions that the other clauses cite, for the proofs above this crate. Each
 //! function does nothing.
 
-ghost use Rattle.cic_rules.specs.Laws.{NamesMayGrow, AxiomsAscend, AxiomsAreReached};
+ghost use Rattle.cic_rules.specs.Laws.{NamesMayGrow, AxiomsAscend, EntriesUseBefore, AxiomsAreReached, RowsAreSorted, FuelOfReduction, FuelOfConversion};
 
 /// What is derived over some names is derived over every list that has them.
 pub fn law_of_names()
@@ -12,5 +12,19 @@ pub fn law_of_names()
 /// theorems that it reaches.
 pub fn law_of_axioms()
     ensures ascend { AxiomsAscend }
+    ensures before { EntriesUseBefore }
     ensures reached { AxiomsAreReached }
+{}
+
+/// The test of an inductive type finds the sort of a constructor's type as inference does, with
+/// the same names and for the same units; the sorts of its arguments cost nothing more.
+pub fn law_of_rows()
+    ensures { RowsAreSorted }
+{}
+
+/// Under a lower limit a judgement answers the same for as many units, or it ends at the limit of
+/// units, and under the higher one it spends more than the lower.
+pub fn law_of_fuel()
+    ensures reduction { FuelOfReduction }
+    ensures conversion { FuelOfConversion }
 {}

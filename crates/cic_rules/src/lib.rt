@@ -16,7 +16,9 @@ pub use entries::{Entry, EntryKind, EntryList};
 pub use env::GlobalEnv;
 pub use fuel::Fuel;
 pub use judge::{Answer, Declares, Inferred, Judge, Mode};
-pub use laws::{law_of_axioms, law_of_names};
+pub use laws::{law_of_axioms, law_of_fuel, law_of_names, law_of_rows};
 
+#[cfg(test)]
+mod family_tests;
 #[cfg(test)]
 mod tests;

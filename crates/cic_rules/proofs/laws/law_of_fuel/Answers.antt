@@ -1,0 +1,8 @@
+use Rattle.cic_rules.proofs.JudgeFuelLaws.{fuel_of_reduction, fuel_of_conversion}
+use Rattle.cic_rules.proofs.laws.law_of_fuel.Goals as goal
+
+pub returns-clause-reduction : goal.returns-clause-reduction
+returns-clause-reduction c = fuel_of_reduction
+
+pub returns-clause-conversion : goal.returns-clause-conversion
+returns-clause-conversion c = fuel_of_conversion
