@@ -65,7 +65,7 @@ module _ (env : List Slot) (delta : Bool) where
 pub fuel_of_reduction : FuelOfReduction
 fuel_of_reduction env delta calls ctx t = whnf_fuel env delta calls ctx t
 
-law_within : {A : Type 0} (ctx : List Hyp) (h : Hyp) (rest : List Hyp → ℕ → Ran A) → ((inner : List Hyp) → KeepsLawOfFuel (rest inner)) →
+pub law_within : {A : Type 0} (ctx : List Hyp) (h : Hyp) (rest : List Hyp → ℕ → Ran A) → ((inner : List Hyp) → KeepsLawOfFuel (rest inner)) →
     KeepsLawOfFuel (within ctx h rest)
 law_within ctx h rest laws = law_then (ended (extended ctx h)) rest (law_ended (extended ctx h)) laws
 

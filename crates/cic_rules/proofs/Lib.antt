@@ -3,6 +3,7 @@ pub mod ContextLaws
 pub mod FirstState
 pub mod FuelLaws
 pub mod IndexLaws
+pub mod InferFuelLaws
 pub mod JudgeFuelLaws
 pub mod NamesLaws
 pub mod PlaceLaws

@@ -4,14 +4,16 @@ use Rattle.base_core.specs.declared.refusals.Stop.TheVariants.{Out}
 use Rattle.base_core.specs.declared.refusals.Limit.TheVariants.{StepLimit}
 use Rattle.core_term.specs.Tree.{Tree}
 use Rattle.cic_rules.specs.declared.context.Hyp.{Hyp}
+use Rattle.cic_rules.specs.declared.decls.Decl.{Decl}
 use Rattle.cic_rules.specs.declared.env.Slot.{Slot}
 use Rattle.cic_rules.specs.declared.judge.Mode.{Mode}
 use Rattle.cic_rules.specs.Environments.{has, AreBefore, IsAscending, IsEnvironment}
 use Rattle.cic_rules.specs.Derive.{IsFormed, Derives}
 use Rattle.cic_rules.specs.Reduce.{whnf_at}
 use Rattle.cic_rules.specs.Convert.{conv_at}
-use Rattle.cic_rules.specs.Infer.{Sorted, sorted, sort_of_at}
+use Rattle.cic_rules.specs.Infer.{Sorted, sorted, infer_at, sort_of_at}
 use Rattle.cic_rules.specs.Inductive.{RowSorted, row_at}
+use Rattle.cic_rules.specs.Declare.{declare_at}
 use Rattle.cic_rules.specs.Runs.{Ran, done, then_do}
 use Rattle.cic_rules.specs.Grounded.{used_at, is_assumption, axioms, Reaches}
 
@@ -67,3 +69,9 @@ FuelOfReduction = (env : List Slot) (delta : Bool) (calls : ℕ) (ctx : List Hyp
 
 abbrev pub FuelOfConversion : Type 0
 FuelOfConversion = (env : List Slot) (calls : ℕ) (ctx : List Hyp) (mode : Mode) (t u : Tree) → KeepsLawOfFuel (conv_at env calls ctx mode t u)
+
+abbrev pub FuelOfInference : Type 0
+FuelOfInference = (env : List Slot) (calls : ℕ) (ctx : List Hyp) (t : Tree) → KeepsLawOfFuel (infer_at env calls ctx t)
+
+abbrev pub FuelOfDeclarations : Type 0
+FuelOfDeclarations = (env : List Slot) (calls : ℕ) (d : Decl) → KeepsLawOfFuel (declare_at env calls d)

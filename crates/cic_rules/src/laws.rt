@@ -1,7 +1,7 @@
 //! Laws of the definitions that the other clauses cite, for the proofs above this crate. Each
 //! function does nothing.
 
-ghost use Rattle.cic_rules.specs.Laws.{NamesMayGrow, AxiomsAscend, EntriesUseBefore, AxiomsAreReached, RowsAreSorted, FuelOfReduction, FuelOfConversion};
+ghost use Rattle.cic_rules.specs.Laws.{NamesMayGrow, AxiomsAscend, EntriesUseBefore, AxiomsAreReached, RowsAreSorted, FuelOfReduction, FuelOfConversion, FuelOfInference, FuelOfDeclarations};
 
 /// What is derived over some names is derived over every list that has them.
 pub fn law_of_names()
@@ -27,4 +27,6 @@ pub fn law_of_rows()
 pub fn law_of_fuel()
     ensures reduction { FuelOfReduction }
     ensures conversion { FuelOfConversion }
+    ensures inference { FuelOfInference }
+    ensures declarations { FuelOfDeclarations }
 {}
