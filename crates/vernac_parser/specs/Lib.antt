@@ -1,0 +1,3 @@
+pub mod Signs
+pub mod Parser
+pub mod Parse

@@ -1,0 +1,1 @@
+//! Laws of the grammar, and of the rules that the parser follows.

@@ -1,0 +1,5 @@
+//! The parser of terms and commands: a token list to its one tree, or the leftmost refusal.
+#![tactic(auto)]
+
+mod laws;
+mod sign;
