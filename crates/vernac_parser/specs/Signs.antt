@@ -46,7 +46,7 @@ symbol_sign text =
 -- of a token of this kind and text
 abbrev pub sign_by : TokenKind → List ℕ → Sign
 sign_by kind.Identifier text = Identifier
-sign_by kind.Wildcard text = Wildcard
+sign_by kind.Wildcard text = if bytes_eq text (codes "_") then Wildcard else Other
 sign_by kind.Reserved text = reserved_sign text
 sign_by kind.Number text = Number
 sign_by kind.Symbol text = symbol_sign text
