@@ -8,14 +8,12 @@ use Rattle.coq_syntax.specs.declared.words.BoundName.TheVariants.{Named, Unnamed
 use Rattle.coq_syntax.specs.Trees.{Term, Forall, Fun, Let, Arrow, Or, And, Not, Equal, Apply, Name, PropSort, SetSort, TypeSort, TypeAt, Numeral, Parenthesized, Binders, Names, Groups, GroupList, NoGroup, Group, Annotation, Untyped, Typed, Arguments, NoArgument, Positional}
 use Rattle.coq_syntax.specs.Trees as tree
 use Rattle.coq_syntax.specs.Limits.{most_nested, greatest_numeral, greatest_level, too_deep, too_great, no_level}
+use Rattle.vernac_parser.specs.declared.rule.Rule.{Rule}
+use Rattle.vernac_parser.specs.declared.rule.Rule.TheVariants.{Whole, Right85, Right80, Right75}
 use Rattle.vernac_parser.specs.declared.sign.Sign.{Sign}
 use Rattle.vernac_parser.specs.declared.sign.Sign.TheVariants as sign
 use Rattle.vernac_parser.specs.Signs.{is_sign, sign_of, sign_at, begins_atom, begins_open, begins_term}
 use Rattle.vernac_parser.specs.Parser.{Outcome, Parser, and_then, ◌>>=◌, pure, ◌<$>◌, refuse, refuse_as, choose, when, take, taken, place_of, word_of, identifier, number, many, repeated}
-
--- the rules that count as nested where they stand: a whole term, and an operand behind an operator that is no open form
-pub data Rule : Type 0 where
-  Whole Right85 Right80 Right75 : Rule
 
 -- ---- words and names
 
