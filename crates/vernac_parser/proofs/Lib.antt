@@ -1,2 +1,5 @@
 pub mod SignLaws
 pub mod Checked
+pub mod Heads
+pub mod Answered
+pub mod Longer
