@@ -92,12 +92,22 @@ fn symbol_sign(symbol: &str) -> Sign
     }
 }
 
+fn wildcard_sign(text: &str) -> Sign
+    ensures { result ≡ spec.sign_by TokenKind.Wildcard text.now }
+{
+    if text == "_" {
+        Sign::Wildcard
+    } else {
+        Sign::Other
+    }
+}
+
 pub fn sign_of(token: &Token) -> Sign
     ensures { result ≡ spec.sign_of token.now }
 {
     match token.kind {
         TokenKind::Identifier => Sign::Identifier,
-        TokenKind::Wildcard => Sign::Wildcard,
+        TokenKind::Wildcard => wildcard_sign(token.text.as_str()),
         TokenKind::Reserved => reserved_sign(token.text.as_str()),
         TokenKind::Number => Sign::Number,
         TokenKind::Symbol => symbol_sign(token.text.as_str()),
