@@ -4,3 +4,4 @@ pub mod Heads
 pub mod Answered
 pub mod Longer
 pub mod Values
+pub mod Turns

@@ -15,28 +15,29 @@ use crate::sign::{Sign, begins_atom};
 use coq_syntax::{Argument, Node, SurfaceTerm, TokenPlace};
 use std::alloc::Global;
 
-#[tactic(auto, unfolding(crate::specs::Parse::type_sort))]
-fn type_sort(alloc: Global, tokens: &mut Tokens<'_>) -> Result<SurfaceTerm, Halt>
-    ensures { Reads (spec.type_sort spec.standard tokens.old) result tokens.new }
-{
-    let keyword = tokens.take(Sign::TypeSort)?;
-    if !tokens.sees(Sign::At) {
-        return Ok(SurfaceTerm::new(Node::TypeSort(keyword)));
-    }
-    let at = tokens.take(Sign::At)?;
-    let opening = tokens.take(Sign::OpenBrace)?;
-    let level = tokens.number(alloc, NumberUse::Level)?;
-    let closing = tokens.take(Sign::CloseBrace)?;
-    Ok(SurfaceTerm::new(Node::TypeAt {
-        keyword,
-        at,
-        opening,
-        level,
-        closing,
-    }))
-}
-
 impl<F: Fn(Global, &mut Tokens<'_>, usize, Rule) -> Result<SurfaceTerm, Halt>> Grammar<F> {
+    #[tactic(auto, unfolding(crate::specs::Parse::type_sort))]
+    fn type_sort(&self, tokens: &mut Tokens<'_>) -> Result<SurfaceTerm, Halt>
+        requires { Nests self.now.limit (F.pre self.now.nested) (F.post self.now.nested) }
+        ensures { Reads (spec.type_sort spec.standard (within self.now.limit) tokens.old) result tokens.new }
+    {
+        let keyword = tokens.take(Sign::TypeSort)?;
+        if !tokens.sees(Sign::At) {
+            return Ok(SurfaceTerm::new(Node::TypeSort(keyword)));
+        }
+        let at = tokens.take(Sign::At)?;
+        let opening = tokens.take(Sign::OpenBrace)?;
+        let level = tokens.number(self.alloc, NumberUse::Level)?;
+        let closing = tokens.take(Sign::CloseBrace)?;
+        Ok(SurfaceTerm::new(Node::TypeAt {
+            keyword,
+            at,
+            opening,
+            level,
+            closing,
+        }))
+    }
+
     /// Behind a `(`.
     #[tactic(auto, unfolding(crate::specs::Parse::parenthesized))]
     fn parenthesized(
@@ -101,7 +102,7 @@ impl<F: Fn(Global, &mut Tokens<'_>, usize, Rule) -> Result<SurfaceTerm, Halt>> G
                 let place = tokens.take(Sign::SetSort)?;
                 Ok(SurfaceTerm::new(Node::SetSort(place)))
             }
-            _ => type_sort(self.alloc, tokens),
+            _ => self.type_sort(tokens),
         }
     }
 
