@@ -44,3 +44,10 @@ many_more test item front none n i r rest f g x xs e p q =
 pub many_done : {A B : Type 0} (test : Sign → Bool) (item : Parser A) (front : A → B → B) (none : B) (n : ℕ) (rest : List Token) → test (sign_at rest) ≡ false → many test item front none (suc n) rest ≡ Ok (none, rest)
 unfolding many
 many_done test item front none n rest e = passed_over test (item >>= (λ a. many test item front none n >>= (λ as'. pure (front a as')))) (pure none) rest e
+
+-- the two ways of a test
+pub took : {A : Type 0} {b : Bool} (x y : A) → b ≡ true → cond b x y ≡ x
+took x y e = ap (λ b. cond b x y) e
+
+pub passed : {A : Type 0} {b : Bool} (x y : A) → b ≡ false → cond b x y ≡ y
+passed x y e = ap (λ b. cond b x y) e

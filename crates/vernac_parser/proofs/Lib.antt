@@ -3,3 +3,4 @@ pub mod Checked
 pub mod Heads
 pub mod Answered
 pub mod Longer
+pub mod Tower
