@@ -1,10 +1,10 @@
 -- What a parser answers at the tokens of a tree: the tree, or its first fault; and how the answers of parts join.
-use Rattle.std.proofs.Common.{◌≡◌, ℕ, zero, suc, Bool, true, false, cond, Option, None, Some, Result, Ok, Err, List, [], ◌∷◌, refl, sym, ◌∙◌, ap, subst}
+use Rattle.std.proofs.Common.{◌≡◌, ℕ, suc, Bool, true, false, cond, Option, None, Some, Ok, Err, List, ◌∙◌, ap}
 use Rattle.coq_syntax.specs.declared.token.Token.{Token}
 use Rattle.coq_syntax.specs.Faults.{Fault, first}
 use Rattle.vernac_parser.specs.declared.sign.Sign.{Sign}
 use Rattle.vernac_parser.specs.Signs.{sign_at}
-use Rattle.vernac_parser.specs.Parser.{Outcome, Parser, and_then, ◌>>=◌, pure, refuse, choose, many}
+use Rattle.vernac_parser.specs.Parser.{Outcome, Parser, and_then, ◌>>=◌, pure, choose, many}
 
 abbrev pub answered : {A : Type 0} → Option Fault → A → List Token → Outcome A
 answered None x rest = Ok (x, rest)

@@ -4,3 +4,5 @@ pub mod Heads
 pub mod Answered
 pub mod Longer
 pub mod Tower
+pub mod Complete
+pub mod Unique

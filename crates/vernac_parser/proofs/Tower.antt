@@ -1,21 +1,20 @@
 -- A term that one level of the rules reads is read by the levels above it.
-use Rattle.std.proofs.Common.{◌≡◌, ℕ, zero, suc, ◌==◌, ◌<◌, ◌≤◌, ◌⊎◌, inl, inr, Bool, true, false, cond, Option, None, Some, List, [], ◌∷◌, length, refl, sym, ◌∙◌, ap, subst, arith}
+use Rattle.std.proofs.Common.{◌≡◌, ℕ, zero, suc, ◌==◌, ◌<◌, ◌≤◌, ◌⊎◌, inl, inr, false, cond, Option, List, length, sym, ◌∙◌, ap, arith}
 use Rattle.coq_syntax.specs.declared.token.Token.{Token}
-use Rattle.coq_syntax.specs.Trees.{Term, Forall, Fun, Let, Arrow, Or, And, Not, Equal, Apply, Name, PropSort, SetSort, TypeSort, TypeAt, Numeral, Parenthesized, Binders, Names, Groups, GroupList, NoGroup, Group, Annotation, Untyped, Typed, Arguments, NoArgument, Positional, Given}
+use Rattle.coq_syntax.specs.Trees.{Term, NoArgument}
 use Rattle.coq_syntax.specs.Spelled.{spells}
-use Rattle.coq_syntax.specs.Limits.{open_level, too_deep}
-use Rattle.coq_syntax.specs.Grammar.{level, IsTerm, IsClosed, IsRight}
+use Rattle.coq_syntax.specs.Limits.{open_level}
+use Rattle.coq_syntax.specs.Grammar.{level, IsTerm, IsClosed}
 use Rattle.coq_syntax.specs.Faults.{Fault}
 use Rattle.coq_syntax.specs.Faults as faults
-use Rattle.vernac_parser.specs.declared.sign.Sign.{Sign}
 use Rattle.vernac_parser.specs.declared.sign.Sign.TheVariants as sign
 use Rattle.vernac_parser.specs.Signs.{is_sign, sign_at, begins_atom, begins_open, begins_term}
-use Rattle.vernac_parser.specs.Parser.{Outcome, Parser, and_then, ◌>>=◌, pure, refuse, refuse_as, choose, many, take}
-use Rattle.vernac_parser.specs.Parse.{Rule, Whole, Right85, Right80, Right75, Checks, Argument, with_argument, applied, atom, argument, arguments, application, equal_behind, t70, operand, t75, and_behind, t80, or_behind, t85, arrow_behind, t99, open_form, term, by_rule, nested}
+use Rattle.vernac_parser.specs.Parser.{Parser, and_then, pure}
+use Rattle.vernac_parser.specs.Parse.{Rule, Whole, Right85, Right80, Right75, Checks, with_argument, applied, atom, argument, arguments, application, equal_behind, t70, operand, t75, and_behind, t80, or_behind, t85, arrow_behind, t99, open_form, term, by_rule, nested}
 use Rattle.vernac_parser.proofs.SignLaws.{reach, beyond, no_atom}
 use Rattle.vernac_parser.proofs.Checked.{fault_by}
-use Rattle.vernac_parser.proofs.Heads.{begins, head_of, term_begins, no_not, no_open, opens, levels}
-use Rattle.vernac_parser.proofs.Answered.{answered, step, step_sure, step_last, took, passed, many_done}
+use Rattle.vernac_parser.proofs.Heads.{head_of, term_begins, no_not, no_open, opens, levels}
+use Rattle.vernac_parser.proofs.Answered.{answered, step_sure, took, passed, many_done}
 
 -- what may follow a term at a level: nothing that the rules of that level go on with, and behind an open form nothing that a term goes on with
 abbrev pub Follows : ℕ → Term → List Token → Type 0
@@ -76,8 +75,9 @@ module _ (c : Checks) (n : ℕ) (t : Term) (rest : List Token) where
   pub whole_read : IsTerm t → Tower → 99 < reach (sign_at rest) → Reads (term c)
   unfolding term
   whole_read h tower r = elim (levels t) as (λ _. Reads (term c)) [
-      inl l ↦ up_whole h l (tower.at99 l r)
-    | inr e ↦ took _ _ (ap begins_open (head_of t rest) ∙ opens t e) ∙ tower.at_open e r ]
+    | inl l ↦ up_whole h l (tower.at99 l r)
+    | inr e ↦ took _ _ (ap begins_open (head_of t rest) ∙ opens t e) ∙ tower.at_open e r
+  ]
 
   -- the levels above the one that reads the term
   abbrev After75 : Type 0
@@ -151,8 +151,15 @@ module _ (c : Checks) (n : ℕ) (t : Term) (rest : List Token) where
   tower_open e own =
       record { at_atom = λ l _. absurd (omega arith); at_application = λ l _. absurd (omega arith); at70 = λ l _. absurd (omega arith); at75 = λ l _. absurd (omega arith); at80 = λ l _. absurd (omega arith); at85 = λ l _. absurd (omega arith); at99 = λ l _. absurd (omega arith); at_open = λ _. own }
 
+-- the fault of a term one level down, and of a right operand
+abbrev pub inside : Checks → ℕ → Term → List Token → Option Fault
+inside c n t rest = faults.nested n (λ m. fault_by c t m rest) (spells t rest)
+
+abbrev pub operand_fault : Checks → ℕ → Term → List Token → Option Fault
+operand_fault c n t rest = cond (level t == open_level) (fault_by c t n rest) (inside c n t rest)
+
 -- a rule that goes one level down
-pub whole_inside : (c : Checks) (n : ℕ) (t : Term) (rest : List Token) → ((m : ℕ) → Reads c m t rest (term c)) → nested c n Whole (spells t rest) ≡ answered (faults.nested n (λ m. fault_by c t m rest) (spells t rest)) t rest
+pub whole_inside : (c : Checks) (n : ℕ) (t : Term) (rest : List Token) → ((m : ℕ) → Reads c m t rest (term c)) → nested c n Whole (spells t rest) ≡ answered (inside c n t rest) t rest
 unfolding nested by_rule
 whole_inside c zero t rest ih = took _ _ (ap begins_term (head_of t rest) ∙ term_begins t)
 whole_inside c (suc n) t rest ih = ih n
@@ -163,7 +170,7 @@ most Right85 = 85
 most Right80 = 80
 most Right75 = 75
 
-rule_inside : (c : Checks) (n : ℕ) (rule : Rule) (t : Term) (rest : List Token) → ((m : ℕ) → Reads c m t rest (λ inner. by_rule c inner rule)) → nested c n rule (spells t rest) ≡ answered (faults.nested n (λ m. fault_by c t m rest) (spells t rest)) t rest
+rule_inside : (c : Checks) (n : ℕ) (rule : Rule) (t : Term) (rest : List Token) → ((m : ℕ) → Reads c m t rest (λ inner. by_rule c inner rule)) → nested c n rule (spells t rest) ≡ answered (inside c n t rest) t rest
 unfolding nested
 rule_inside c zero rule t rest ih = took _ _ (ap begins_term (head_of t rest) ∙ term_begins t)
 rule_inside c (suc n) rule t rest ih = ih n
@@ -172,7 +179,7 @@ not_the_open_level : (k : ℕ) → k ≤ 99 → (k == open_level) ≡ false
 not_the_open_level k l = grind arith
 
 -- a right operand: an open form counts nothing
-pub operand_inside : (c : Checks) (n : ℕ) (rule : Rule) (t : Term) (rest : List Token) → IsTerm t → (level t ≤ 99) ⊎ (level t ≡ open_level) → (level t ≡ open_level → Reads c n t rest (open_form c)) → (level t ≤ 99 → (m : ℕ) → Reads c m t rest (λ inner. by_rule c inner rule)) → operand c (nested c n) rule (spells t rest) ≡ answered (cond (level t == open_level) (fault_by c t n rest) (faults.nested n (λ m. fault_by c t m rest) (spells t rest))) t rest
+pub operand_inside : (c : Checks) (n : ℕ) (rule : Rule) (t : Term) (rest : List Token) → IsTerm t → (level t ≤ 99) ⊎ (level t ≡ open_level) → (level t ≡ open_level → Reads c n t rest (open_form c)) → (level t ≤ 99 → (m : ℕ) → Reads c m t rest (λ inner. by_rule c inner rule)) → operand c (nested c n) rule (spells t rest) ≡ answered (operand_fault c n t rest) t rest
 unfolding operand
 operand_inside c n rule t rest h (inl l) own ih = passed _ _ (ap begins_open (head_of t rest) ∙ no_open t h l) ∙ rule_inside c n rule t rest (ih l) ∙ ap (λ b. answered (cond b (fault_by c t n rest) (faults.nested n (λ m. fault_by c t m rest) (spells t rest))) t rest) (sym (not_the_open_level (level t) l))
 operand_inside c n rule t rest h (inr e) own ih = took _ _ (ap begins_open (head_of t rest) ∙ opens t e) ∙ own e ∙ ap (λ k. answered (cond (k == open_level) (fault_by c t n rest) (faults.nested n (λ m. fault_by c t m rest) (spells t rest))) t rest) (sym e)

@@ -1,3 +1,4 @@
 pub mod Signs
 pub mod Parser
 pub mod Parse
+pub mod Meets

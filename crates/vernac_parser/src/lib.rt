@@ -3,3 +3,5 @@
 
 mod laws;
 mod sign;
+
+pub use laws::one_tree;
