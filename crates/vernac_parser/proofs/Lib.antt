@@ -6,3 +6,4 @@ pub mod Longer
 pub mod Tower
 pub mod Complete
 pub mod Unique
+pub mod Local
