@@ -1,10 +1,10 @@
 -- What a parser answers at the tokens of a tree: the tree, or its first fault; and how the answers of parts join.
-use Rattle.std.proofs.Common.{◌≡◌, ℕ, zero, suc, Bool, true, false, cond, Option, None, Some, Result, Ok, Err, List, [], ◌∷◌, refl, sym, ◌∙◌, ap, subst}
+use Rattle.std.proofs.Common.{◌≡◌, ℕ, suc, Bool, true, false, cond, Option, None, Some, Ok, Err, List, ◌∙◌, ap}
 use Rattle.coq_syntax.specs.declared.token.Token.{Token}
 use Rattle.coq_syntax.specs.Faults.{Fault, first}
 use Rattle.vernac_parser.specs.declared.sign.Sign.{Sign}
 use Rattle.vernac_parser.specs.Signs.{sign_at}
-use Rattle.vernac_parser.specs.Parser.{Outcome, Parser, and_then, ◌>>=◌, pure, refuse, choose, many}
+use Rattle.vernac_parser.specs.Parser.{Outcome, Parser, and_then, ◌>>=◌, pure, choose, many}
 
 abbrev pub answered : {A : Type 0} → Option Fault → A → List Token → Outcome A
 answered None x rest = Ok (x, rest)
@@ -44,3 +44,10 @@ many_more test item front none n i r rest f g x xs e p q =
 pub many_done : {A B : Type 0} (test : Sign → Bool) (item : Parser A) (front : A → B → B) (none : B) (n : ℕ) (rest : List Token) → test (sign_at rest) ≡ false → many test item front none (suc n) rest ≡ Ok (none, rest)
 unfolding many
 many_done test item front none n rest e = passed_over test (item >>= (λ a. many test item front none n >>= (λ as'. pure (front a as')))) (pure none) rest e
+
+-- the two ways of a test
+pub took : {A : Type 0} {b : Bool} (x y : A) → b ≡ true → cond b x y ≡ x
+took x y e = ap (λ b. cond b x y) e
+
+pub passed : {A : Type 0} {b : Bool} (x y : A) → b ≡ false → cond b x y ≡ y
+passed x y e = ap (λ b. cond b x y) e

@@ -1,5 +1,5 @@
 -- The first fault of a tree under any checks of numbers, which with the grammar's checks is the grammar's fault.
-use Rattle.std.proofs.Common.{◌≡◌, ℕ, zero, suc, ◌==◌, Bool, true, false, cond, if◌then◌else◌, Option, None, Some, List, [], ◌∷◌, codes, refl, ap, ap₂}
+use Rattle.std.proofs.Common.{◌≡◌, ℕ, zero, suc, ◌==◌, Bool, cond, if◌then◌else◌, Option, None, Some, List, ◌∷◌, codes, refl, ap₂}
 use Rattle.coq_syntax.specs.declared.token.Token.{Token}
 use Rattle.coq_syntax.specs.Trees.{Term, Forall, Fun, Let, Arrow, Or, And, Not, Equal, Apply, Name, PropSort, SetSort, TypeSort, TypeAt, Numeral, Parenthesized, Binders, Names, Groups, GroupList, NoGroup, Group, Annotation, Untyped, Typed, Arguments, NoArgument, Positional, Given}
 use Rattle.coq_syntax.specs.Spelled.{reserved, symbol, number, spells, groups, arguments}
@@ -50,7 +50,7 @@ module _ (c : Checks) where
     arguments_fault_by (Given p w q t r after) n rest =
         first (nested n (λ m. fault_by t m (symbol (codes ")") r ∷ arguments after rest)) (spells t (symbol (codes ")") r ∷ arguments after rest))) (arguments_fault_by after n rest)
 
-same_nested : (n : ℕ) (f g : ℕ → Option Fault) (start : List Token) → ((m : ℕ) → f m ≡ g m) → nested n f start ≡ nested n g start
+pub same_nested : (n : ℕ) (f g : ℕ → Option Fault) (start : List Token) → ((m : ℕ) → f m ≡ g m) → nested n f start ≡ nested n g start
 same_nested zero f g start h = refl
 same_nested (suc n) f g start h = h n
 

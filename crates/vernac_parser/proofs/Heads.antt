@@ -1,7 +1,7 @@
 -- The first token of a term.
-use Rattle.std.proofs.Common.{◌≡◌, ℕ, zero, suc, ◌<◌, ◌≤◌, ◌⊎◌, inl, inr, Bool, true, false, cond, List, [], ◌∷◌, codes, refl, sym, ◌∙◌, ap, subst, arith}
+use Rattle.std.proofs.Common.{◌≡◌, ◌<◌, ◌≤◌, ◌⊎◌, inl, inr, true, false, List, refl, ◌∙◌, ap, arith}
 use Rattle.coq_syntax.specs.declared.token.Token.{Token}
-use Rattle.coq_syntax.specs.Trees.{Term, Forall, Fun, Let, Arrow, Or, And, Not, Equal, Apply, Name, PropSort, SetSort, TypeSort, TypeAt, Numeral, Parenthesized, Binders, Names, Groups, GroupList, NoGroup, Group, Annotation, Untyped, Typed, Arguments, NoArgument, Positional, Given}
+use Rattle.coq_syntax.specs.Trees.{Term, Forall, Fun, Let, Arrow, Or, And, Not, Equal, Apply, Name, PropSort, SetSort, TypeSort, TypeAt, Numeral, Parenthesized, Arguments, NoArgument, Positional, Given}
 use Rattle.coq_syntax.specs.Spelled.{spells, arguments}
 use Rattle.coq_syntax.specs.Grammar.{level, IsTerm, AreArguments}
 use Rattle.vernac_parser.specs.declared.sign.Sign.{Sign}

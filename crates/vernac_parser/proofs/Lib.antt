@@ -4,4 +4,9 @@ pub mod Heads
 pub mod Answered
 pub mod Longer
 pub mod Values
+pub mod Tower
+pub mod Complete
+pub mod Unique
+pub mod Local
+pub mod Taking
 pub mod Turns

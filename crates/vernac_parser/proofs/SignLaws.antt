@@ -1,17 +1,16 @@
 -- What a token with a sign is, and which signs may follow a term.
-use Rattle.std.proofs.Common.{◌≡◌, ℕ, zero, suc, ◌<◌, ◌≤◌, ◌⊎◌, Bool, true, false, cond, List, [], ◌∷◌, codes, bytes_eq, refl, sym, ◌∙◌, ap, subst, arith}
+use Rattle.std.proofs.Common.{◌≡◌, ℕ, ◌<◌, Bool, true, false, cond, List, codes, bytes_eq, refl, ap, subst, arith}
 use Rattle.std.proofs.lemmas.Slice.Eq.{bytes_eq-Decides}
 use denote.Enum.Bare.{same_true, true_same, false_same}
 use Rattle.coq_syntax.specs.declared.token.Token.{Token}
 use Rattle.coq_syntax.specs.declared.token.TokenKind.{TokenKind}
 use Rattle.coq_syntax.specs.declared.token.TokenKind.TheVariants as kind
-use Rattle.coq_syntax.specs.declared.words.TokenPlace.{TokenPlace}
-use Rattle.coq_syntax.specs.Spelled.{token, reserved, symbol, identifier, number}
+use Rattle.coq_syntax.specs.Spelled.{token}
 use Rattle.vernac_parser.specs.contracts.sign.Sign.{the_type}
 use Rattle.vernac_parser.specs.declared.sign.Sign.{Sign}
 use Rattle.vernac_parser.specs.declared.sign.Sign.TheVariants as sign
-use Rattle.vernac_parser.specs.Signs.{is_sign, sign_of, sign_by, sign_at, reserved_sign, symbol_sign, begins_atom}
-use Rattle.vernac_parser.specs.Parser.{place_of, word_of}
+use Rattle.vernac_parser.specs.Signs.{is_sign, sign_of, sign_by, reserved_sign, symbol_sign, begins_atom}
+use Rattle.vernac_parser.specs.Parser.{place_of}
 
 -- the kind and the text of a token with this sign
 abbrev pub Written : Sign → TokenKind → List ℕ → Type 0

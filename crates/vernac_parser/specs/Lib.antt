@@ -5,3 +5,4 @@ pub mod Numbers
 pub mod Reads
 pub mod Views
 pub mod Nests
+pub mod Meets

@@ -1,5 +1,5 @@
 -- The rules of the grammar of terms, each as a parser that chooses by the next token. They go one level down through `inner`.
-use Rattle.std.specs.Prelude.{ℕ, zero, suc, Bool, true, false, ◌||◌, ◌==◌, nat_lt, if◌then◌else◌, Result, Ok, Err, List, [], ◌∷◌, length}
+use Rattle.std.specs.Prelude.{ℕ, zero, suc, Bool, true, false, ◌||◌, ◌==◌, nat_lt, if◌then◌else◌, List, [], ◌∷◌}
 use Rattle.coq_syntax.specs.declared.token.Token.{Token}
 use Rattle.coq_syntax.specs.declared.words.TokenPlace.{TokenPlace}
 use Rattle.coq_syntax.specs.declared.words.Word.{Word}
@@ -8,12 +8,12 @@ use Rattle.coq_syntax.specs.declared.words.BoundName.TheVariants.{Named, Unnamed
 use Rattle.coq_syntax.specs.Trees.{Term, Forall, Fun, Let, Arrow, Or, And, Not, Equal, Apply, Name, PropSort, SetSort, TypeSort, TypeAt, Numeral, Parenthesized, Binders, Names, Groups, GroupList, NoGroup, Group, Annotation, Untyped, Typed, Arguments, NoArgument, Positional}
 use Rattle.coq_syntax.specs.Trees as tree
 use Rattle.coq_syntax.specs.Limits.{most_nested, greatest_numeral, greatest_level, too_deep, too_great, no_level}
-use Rattle.vernac_parser.specs.declared.rule.Rule.{Rule}
-use Rattle.vernac_parser.specs.declared.rule.Rule.TheVariants.{Whole, Right85, Right80, Right75}
+pub use Rattle.vernac_parser.specs.declared.rule.Rule.{Rule}
+pub use Rattle.vernac_parser.specs.declared.rule.Rule.TheVariants.{Whole, Right85, Right80, Right75}
 use Rattle.vernac_parser.specs.declared.sign.Sign.{Sign}
 use Rattle.vernac_parser.specs.declared.sign.Sign.TheVariants as sign
 use Rattle.vernac_parser.specs.Signs.{is_sign, sign_of, sign_at, begins_atom, begins_open, begins_term}
-use Rattle.vernac_parser.specs.Parser.{Outcome, Parser, and_then, ◌>>=◌, pure, ◌<$>◌, refuse, refuse_as, choose, when, take, taken, place_of, word_of, identifier, number, many, repeated}
+use Rattle.vernac_parser.specs.Parser.{Parser, ◌>>=◌, pure, ◌<$>◌, refuse, refuse_as, choose, when, take, identifier, number, repeated}
 
 -- ---- words and names
 

@@ -59,7 +59,7 @@ pub fn nested(
     ensures { Reads (within limit rule tokens.old) result tokens.new }
 {
     if limit == 0 {
-        return Err(too_deep(tokens));
+        return Err(too_deep(tokens, rule));
     }
     Grammar {
         alloc,
@@ -71,8 +71,8 @@ pub fn nested(
 
 /// The refusal of a nested rule where no more may nest.
 #[tactic(auto, unfolding(crate::specs::Parse::nested))]
-fn too_deep(tokens: &Tokens<'_>) -> Halt
-    ensures { Reads (within 0 Rule.Whole tokens.now) (Err result) tokens.now }
+fn too_deep(tokens: &Tokens<'_>, rule: Rule) -> Halt
+    ensures { Reads (within 0 rule tokens.now) (Err result) tokens.now }
 {
     if begins_term(tokens.sign()) {
         return tokens.refuse_as(TOO_DEEP);

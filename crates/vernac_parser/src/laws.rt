@@ -1,1 +1,8 @@
-//! Laws of the grammar, and of the rules that the parser follows.
+//! Laws of the grammar, for the proofs above this crate.
+
+ghost use Rattle.vernac_parser.specs.Meets.{OneTree};
+
+/// A token list has at most one tree.
+pub fn one_tree()
+    ensures { OneTree }
+{}

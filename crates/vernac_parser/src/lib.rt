@@ -13,3 +13,4 @@ mod sign;
 
 pub use cursor::{Halt, Tokens};
 pub use rule::Rule;
+pub use laws::one_tree;
