@@ -7,3 +7,4 @@ pub mod Tower
 pub mod Complete
 pub mod Unique
 pub mod Local
+pub mod Taking

@@ -47,7 +47,7 @@ pub record Local {A : Type 0} (p : Parser A) : Type 0 where
 
 -- ---- lists
 
-nil_of : (u v : List Token) → u ++ v ≡ v → u ≡ []
+pub nil_of : (u v : List Token) → u ++ v ≡ v → u ≡ []
 nil_of [] v e = refl
 nil_of (t ∷ u) v e = absurd (let size : length (t ∷ u ++ v) ≡ length v = ap length e in omega (arith, length-append u v))
 
@@ -60,7 +60,7 @@ sign_of_one [] = refl
 sign_of_one (t ∷ w) = refl
 
 -- the next token is the same, or the place is here and nothing stands there
-signs_alike : (g : Grade) (u v v' : List Token) → Agrees g v v' → (sign_at (u ++ v) ≡ sign_at (u ++ v')) ⊎ ((u ≡ []) × (v' ≡ []) × (g ≡ Ended))
+pub signs_alike : (g : Grade) (u v v' : List Token) → Agrees g v v' → (sign_at (u ++ v) ≡ sign_at (u ++ v')) ⊎ ((u ≡ []) × (v' ≡ []) × (g ≡ Ended))
 signs_alike g (t ∷ u) v v' a = inl refl
 signs_alike Two [] v v' a = inl (sym (sign_of_two v) ∙ ap sign_at a ∙ sign_of_two v')
 signs_alike One [] v v' a = inl (sym (sign_of_one v) ∙ ap sign_at a ∙ sign_of_one v')
@@ -76,7 +76,7 @@ ok x r = Ok (x, r)
 
 -- ---- how the parts of a rule join
 
-local_ext : {A : Type 0} (p q : Parser A) → ((i : List Token) → p i ≡ q i) → Local p → Local q
+pub local_ext : {A : Type 0} (p q : Parser A) → ((i : List Token) → p i ≡ q i) → Local p → Local q
 local_ext p q e l = record {
     cut = λ i. ((l.cut i).0, (l.cut i).1 ∙ ap (λ o. (l.cut i).0 ++ stop o) (e i));
     same = λ g i i' u v v' h h' s a b. sym (e i') ∙ l.same g i i' u v v' h h' (ap stop (e i) ∙ s) (subst (Allowed g) (sym (e i)) a) b ∙ ap (moved v') (e i) }
