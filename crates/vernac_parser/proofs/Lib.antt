@@ -10,3 +10,4 @@ pub mod Unique
 pub mod Local
 pub mod Taking
 pub mod Turns
+pub mod Places

@@ -6,3 +6,4 @@ pub mod Reads
 pub mod Views
 pub mod Nests
 pub mod Meets
+pub mod Answers

@@ -8,9 +8,9 @@ mod grammar;
 mod laws;
 mod number;
 mod operators;
+mod parsing;
 mod rule;
 mod sign;
 
-pub use cursor::{Halt, Tokens};
-pub use rule::Rule;
 pub use laws::one_tree;
+pub use parsing::{Parsed, parse_term};
