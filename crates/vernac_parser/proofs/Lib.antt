@@ -8,3 +8,4 @@ pub mod Complete
 pub mod Unique
 pub mod Local
 pub mod Taking
+pub mod LocalRules
