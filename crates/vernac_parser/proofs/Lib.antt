@@ -9,3 +9,4 @@ pub mod Unique
 pub mod Local
 pub mod Taking
 pub mod LocalRules
+pub mod Refused
