@@ -10,3 +10,4 @@ pub mod Local
 pub mod Taking
 pub mod LocalRules
 pub mod Refused
+pub mod Viable
