@@ -9,5 +9,8 @@ pub mod Complete
 pub mod Unique
 pub mod Local
 pub mod Taking
+pub mod LocalRules
+pub mod Refused
+pub mod Viable
 pub mod Turns
 pub mod Places

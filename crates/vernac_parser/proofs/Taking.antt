@@ -35,7 +35,7 @@ moves {A} test p t i e s = by (p i) (t (sign_at i) e i refl) s
     by (Err f) (inl h) s = absurd (let size : length f.rest ≡ length i = ap length s in omega arith)
     by (Err f) (inr h) s = h
 
-cut_le : {A : Type 0} (p : Parser A) → Local p → (i : List Token) → length (stop (p i)) ≤ length i
+pub cut_le : {A : Type 0} (p : Parser A) → Local p → (i : List Token) → length (stop (p i)) ≤ length i
 cut_le p l i = let size : length i ≡ length ((l.cut i).0 ++ stop (p i)) = ap length (l.cut i).1 in omega (arith, length-append (l.cut i).0 (stop (p i)))
 
 shorter : {A : Type 0} (P : ℕ → Type 0) (o : Outcome A) (i : List Token) → length (stop o) < length i → Taken P o i

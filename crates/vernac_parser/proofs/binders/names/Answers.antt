@@ -4,12 +4,9 @@ use Rattle.coq_syntax.specs.declared.words.BoundName.{BoundName}
 use Rattle.vernac_parser.specs.Parser.{repeated}
 use Rattle.vernac_parser.specs.Reads.{counted}
 use Rattle.vernac_parser.specs.Parse.{names, binder_name, is_name, with_name}
-use Rattle.vernac_parser.proofs.Taking.{Takes}
+use Rattle.vernac_parser.proofs.LocalRules.{takes_name}
 use Rattle.vernac_parser.proofs.Turns.{behind, onto, more, done, failed, smaller}
 use Rattle.vernac_parser.proofs.binders.names.Goals as goal
-
-takes_name : Takes is_name binder_name
-takes_name = ?
 
 all_names : (ns : List BoundName) → onto (λ n. with_name n) ns [] ≡ ns
 all_names [] = refl

@@ -10,11 +10,12 @@ use Rattle.vernac_parser.specs.Reads.{counted}
 use Rattle.vernac_parser.specs.Parse.{standard, argument, with_argument}
 use Rattle.vernac_parser.specs.Views.{within, argument_of}
 use Rattle.vernac_parser.proofs.Taking.{Takes}
+use Rattle.vernac_parser.proofs.LocalRules.{takes_argument, local_nested, identifier_nested}
 use Rattle.vernac_parser.proofs.Turns.{behind, onto, more, done, failed, smaller}
 use Rattle.vernac_parser.proofs.grammar.Grammar.arguments.Goals as goal
 
-takes_argument : (limit : ℕ) → Takes begins_atom (argument standard (within limit))
-takes_argument = ?
+takes : (limit : ℕ) → Takes begins_atom (argument standard (within limit))
+takes limit = takes_argument standard (within limit) (local_nested standard limit) (identifier_nested standard limit)
 
 all_arguments : (args : List Argument) → onto (λ d. with_argument (argument_of d)) args NoArgument ≡ arguments_of args
 all_arguments [] = refl
@@ -30,11 +31,11 @@ returns-in_err-argument g c =
 
 pub loop-arguments-smaller : goal.loop-arguments-smaller
 loop-arguments-smaller g c =
-    smaller argument_of begins_atom (argument standard (within c.args.self.now.limit)) with_argument NoArgument (takes_argument _) _ c.loop-arguments.tokens _ (ap begins_atom (sym c.sign.ensures) ∙ sym c.loop-arguments-test.ensures) c.in_ok-argument.ensures
+    smaller argument_of begins_atom (argument standard (within c.args.self.now.limit)) with_argument NoArgument (takes _) _ c.loop-arguments.tokens _ (ap begins_atom (sym c.sign.ensures) ∙ sym c.loop-arguments-test.ensures) c.in_ok-argument.ensures
 
 pub loop-arguments-preserved : goal.loop-arguments-preserved
 loop-arguments-preserved g c =
-    rw c.in_ok-push.ensures.items (more argument_of begins_atom (argument standard (within c.args.self.now.limit)) with_argument NoArgument (takes_argument _) c.loop-arguments.arguments.items _ _ _ (ap begins_atom (sym c.sign.ensures) ∙ sym c.loop-arguments-test.ensures) c.in_ok-argument.ensures ∙ c.loop-arguments.invariant)
+    rw c.in_ok-push.ensures.items (more argument_of begins_atom (argument standard (within c.args.self.now.limit)) with_argument NoArgument (takes _) c.loop-arguments.arguments.items _ _ _ (ap begins_atom (sym c.sign.ensures) ∙ sym c.loop-arguments-test.ensures) c.in_ok-argument.ensures ∙ c.loop-arguments.invariant)
 
 pub returns : goal.returns
 returns g c =

@@ -10,11 +10,12 @@ use Rattle.vernac_parser.specs.Reads.{counted}
 use Rattle.vernac_parser.specs.Parse.{standard, group, with_group}
 use Rattle.vernac_parser.specs.Views.{within, group_of}
 use Rattle.vernac_parser.proofs.Taking.{Takes}
+use Rattle.vernac_parser.proofs.LocalRules.{takes_group, local_nested, identifier_nested}
 use Rattle.vernac_parser.proofs.Turns.{behind, onto, more, done, failed, smaller}
 use Rattle.vernac_parser.proofs.grammar.Grammar.groups.Goals as goal
 
-takes_group : (limit : ℕ) → Takes (λ s. is_sign s Open) (group standard (within limit))
-takes_group = ?
+takes : (limit : ℕ) → Takes (λ s. is_sign s Open) (group standard (within limit))
+takes limit = takes_group standard (within limit) (local_nested standard limit) (identifier_nested standard limit)
 
 all_groups : (gs : List Group) → onto (λ d. with_group (group_of d)) gs NoGroup ≡ groups_of gs
 all_groups [] = refl
@@ -29,11 +30,11 @@ returns-in_err-group g c =
 
 pub loop-groups-smaller : goal.loop-groups-smaller
 loop-groups-smaller g c =
-    smaller group_of (λ s. is_sign s Open) (group standard (within c.args.self.now.limit)) with_group NoGroup (takes_group _) c.in_ok-group.field-0 c.loop-groups.tokens _ (sym c.sees.ensures ∙ c.loop-groups-test.true) c.in_ok-group.ensures
+    smaller group_of (λ s. is_sign s Open) (group standard (within c.args.self.now.limit)) with_group NoGroup (takes _) c.in_ok-group.field-0 c.loop-groups.tokens _ (sym c.sees.ensures ∙ c.loop-groups-test.true) c.in_ok-group.ensures
 
 pub loop-groups-preserved : goal.loop-groups-preserved
 loop-groups-preserved g c =
-    rw c.in_ok-push.ensures.items (more group_of (λ s. is_sign s Open) (group standard (within c.args.self.now.limit)) with_group NoGroup (takes_group _) c.loop-groups.groups.items _ _ _ (sym c.sees.ensures ∙ c.loop-groups-test.true) c.in_ok-group.ensures ∙ c.loop-groups.invariant)
+    rw c.in_ok-push.ensures.items (more group_of (λ s. is_sign s Open) (group standard (within c.args.self.now.limit)) with_group NoGroup (takes _) c.loop-groups.groups.items _ _ _ (sym c.sees.ensures ∙ c.loop-groups-test.true) c.in_ok-group.ensures ∙ c.loop-groups.invariant)
 
 pub returns : goal.returns
 returns g c =
