@@ -28,10 +28,10 @@ local_when make s f q e lf lq =
     (local_bind (taken make s) f (local_taken make s) lf) lq
 
 -- a rule that begins with this token
-takes_sign : {A B : Type 0} (P : ℕ → Type 0) (make : Token → A) (s : Sign) (f : A → Parser B) → is_sign sign.Other s ≡ false → ((x : A) → Local (f x)) → TakesAt P s (taken make s >>= f)
+pub takes_sign : {A B : Type 0} (P : ℕ → Type 0) (make : Token → A) (s : Sign) (f : A → Parser B) → is_sign sign.Other s ≡ false → ((x : A) → Local (f x)) → TakesAt P s (taken make s >>= f)
 takes_sign P make s f e lf = takes_bind P s (taken make s) f (takes_taken P s make (is_same s s refl) (other_is_not s e)) lf
 
-only : {A : Type 0} (s : Sign) (p : Parser A) → TakesAt Limit s p → Takes (λ t. is_sign t s) p
+pub only : {A : Type 0} (s : Sign) (p : Parser A) → TakesAt Limit s p → Takes (λ t. is_sign t s) p
 only s p h t k = subst (λ x. TakesAt Limit x p) (sym (same_sign t s k)) h
 
 too_great_is_a_limit : Limit too_great

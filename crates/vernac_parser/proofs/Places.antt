@@ -1,5 +1,5 @@
 -- Where what was read ends, as a place of the whole list.
-use Rattle.std.proofs.Common.{◌≡◌, ◌≢◌, ℕ, suc, ◌+◌, ◌-◌, ◌≤◌, ◌⊎◌, inl, inr, Result, Ok, Err, List, [], ◌∷◌, ◌++◌, length, take, drop, refl, sym, ◌∙◌, ap, subst, arith, append_assoc, length-append, length-drop}
+use Rattle.std.proofs.Common.{◌≡◌, ◌≢◌, ℕ, suc, None, ◌+◌, ◌-◌, ◌≤◌, ◌⊎◌, inl, inr, Result, Ok, Err, List, [], ◌∷◌, ◌++◌, length, take, drop, refl, sym, ◌∙◌, ap, subst, arith, append_assoc, length-append, length-drop}
 use Rattle.std.proofs.lemmas.List.{take-append-drop, take_all}
 use Rattle.coq_syntax.specs.declared.token.Token.{Token}
 use Rattle.coq_syntax.specs.Tokens.{Tokens}
@@ -11,7 +11,11 @@ use Rattle.vernac_parser.specs.Parser.{Outcome}
 use Rattle.vernac_parser.specs.Parse.{whole_term}
 use Rattle.vernac_parser.specs.Reads.{counted}
 use Rattle.vernac_parser.specs.Meets.{IsRead, IsUnexpected, IsLimit, IsRefused, IsAnswer}
-use Rattle.vernac_parser.specs.Answers.{IsParsed, IsWithin, next_place, stop_of}
+use Rattle.coq_syntax.specs.CommandTrees.{Command}
+use Rattle.coq_syntax.specs.Commands.{IsCommandOf, command_fault}
+use Rattle.vernac_parser.specs.ParseCommand.{whole_command}
+use Rattle.vernac_parser.specs.MeetsWhole.{IsRefusedIn, IsWholeAnswer}
+use Rattle.vernac_parser.specs.Answers.{IsParsed, IsCommandParsed, IsWithin, next_place, stop_of}
 use Rattle.vernac_parser.proofs.Local.{stop}
 
 answers : (i : List Token) → IsAnswer i (whole_term i)
@@ -71,3 +75,30 @@ pub term_refused : (tokens : Tokens) (at : ℕ) (i : List Token) (e : Halt) → 
     → IsWithin e (length tokens.items) × IsParsed tokens at (Err (stop_of tokens e))
 term_refused tokens at i NoMem b h = (tt, tt)
 term_refused tokens at i (Refused code left) b h = halted tokens at i (whole_term i) (Refused code left) (begun tokens.items at i b) (answers i) (h (λ e. cc))
+
+-- ---- commands
+
+command_answers : (i : List Token) → IsWholeAnswer Command IsCommandOf command_fault i (whole_command i)
+command_answers = ?
+
+pub command_read : (items left : List Token) (c : Command) → whole_command items ≡ Ok (c, left) → IsCommandOf items c × (command_fault c ≡ None)
+command_read items left c e =
+    let h : IsWholeAnswer Command IsCommandOf command_fault items (Ok (c, left)) = subst (IsWholeAnswer Command IsCommandOf command_fault items) e (command_answers items) in (h.1, h.2)
+
+cut_command : (i : List Token) (f : Fault) → IsRefusedIn Command IsCommandOf command_fault i f → (used : List Token) × (i ≡ used ++ f.rest)
+cut_command i f (inl h) = (h.1.used, h.1.parts)
+cut_command i f (inr h) = (h.used, h.parts ∙ ap (λ l. h.used ++ l) (sym h.place))
+
+of_command_refusal : (tokens : Tokens) (f : Fault) (e : Halt) → IsRefusedIn Command IsCommandOf command_fault tokens.items f → Refused f.code (length f.rest) ≡ e → IsWithin e (length tokens.items) × IsCommandParsed tokens (Err (stop_of tokens e))
+of_command_refusal tokens f e h same =
+    let parts = cut_command tokens.items f h in
+    subst (λ e. IsWithin e (length tokens.items) × IsCommandParsed tokens (Err (stop_of tokens e))) same
+      (fits tokens.items parts.0 f.rest 0 parts.1, (f, h, (refl, ap (next_place tokens.period) (inside tokens.items parts.0 f.rest 0 parts.1))))
+
+command_halted : (tokens : Tokens) (o : Outcome Command) (e : Halt) → IsWholeAnswer Command IsCommandOf command_fault tokens.items o → counted o ≡ Err e → IsWithin e (length tokens.items) × IsCommandParsed tokens (Err (stop_of tokens e))
+command_halted tokens (Ok p) e h c = absurd (cc)
+command_halted tokens (Err f) e h c = let same : Refused f.code (length f.rest) ≡ e = cc in of_command_refusal tokens f e h same
+
+pub command_refused : (tokens : Tokens) (e : Halt) → (e ≢ NoMem → counted (whole_command tokens.items) ≡ Err e) → IsWithin e (length tokens.items) × IsCommandParsed tokens (Err (stop_of tokens e))
+command_refused tokens NoMem h = (tt, tt)
+command_refused tokens (Refused code left) h = command_halted tokens (whole_command tokens.items) (Refused code left) (command_answers tokens.items) (h (λ e. cc))

@@ -1,5 +1,5 @@
 -- What the calls on a token list answer, with the places of refusals.
-use Rattle.std.specs.Prelude.{◌≡◌, ℕ, ◌+◌, ◌-◌, ◌^◌, ◌≤◌, min, drop, length, Result, Ok, Err, List, [], ◌∷◌}
+use Rattle.std.specs.Prelude.{◌≡◌, ℕ, ◌+◌, ◌-◌, ◌^◌, ◌≤◌, min, drop, length, None, Result, Ok, Err, List, [], ◌∷◌}
 use Rattle.base_core.specs.declared.refusals.Place.{Place}
 use Rattle.base_core.specs.declared.refusals.Place.TheVariants.{Part}
 use Rattle.base_core.specs.declared.refusals.Refusal.{Refusal}
@@ -8,10 +8,13 @@ use Rattle.base_core.specs.declared.refusals.Stop.TheVariants.{Refused, Out, NoM
 use Rattle.coq_syntax.specs.declared.token.Token.{Token}
 use Rattle.coq_syntax.specs.Tokens.{Tokens}
 use Rattle.coq_syntax.specs.Faults.{Fault}
+use Rattle.coq_syntax.specs.CommandTrees.{Command}
+use Rattle.coq_syntax.specs.Commands.{IsCommandOf, command_fault}
 use Rattle.vernac_parser.specs.declared.cursor.Halt.{Halt}
 use Rattle.vernac_parser.specs.declared.cursor.Halt.TheVariants as halt
 use Rattle.vernac_parser.specs.declared.parsing.Parsed.{Parsed}
 use Rattle.vernac_parser.specs.Meets.{IsRead, IsRefused}
+use Rattle.vernac_parser.specs.MeetsWhole.{IsRefusedIn}
 
 -- the place of the next of these tokens, or of the period behind them, as far as numbers of 32 bits go
 abbrev pub next_place : ℕ → List Token → Place
@@ -27,6 +30,13 @@ IsParsed tokens at (Ok parsed) = (parsed.next ≤ length tokens.items) × IsRead
 IsParsed tokens at (Err (Refused r)) = (f : Fault) × IsRefused (drop at tokens.items) f × IsRefusal tokens r f
 IsParsed tokens at (Err (Out limit)) = ⊥
 IsParsed tokens at (Err NoMem) = Unit {0}
+
+-- the list is a command, or none
+abbrev pub IsCommandParsed : Tokens → Result Command Stop → Type 0
+IsCommandParsed tokens (Ok c) = IsCommandOf tokens.items c × (command_fault c ≡ None)
+IsCommandParsed tokens (Err (Refused r)) = (f : Fault) × IsRefusedIn Command IsCommandOf command_fault tokens.items f × IsRefusal tokens r f
+IsCommandParsed tokens (Err (Out limit)) = ⊥
+IsCommandParsed tokens (Err NoMem) = Unit {0}
 
 -- ---- what the code of the rules answers, as it is told to callers
 

@@ -6,4 +6,7 @@ pub mod Reads
 pub mod Views
 pub mod Nests
 pub mod Meets
+pub mod MeetsWhole
 pub mod Answers
+pub mod CommandWords
+pub mod ParseCommand

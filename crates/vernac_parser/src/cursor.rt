@@ -4,9 +4,12 @@ ghost use Rattle.std.specs.Prelude.{◌≡◌, length, IfOk};
 ghost use Rattle.vernac_parser.specs.Signs.{is_sign, sign_at};
 ghost use Rattle.vernac_parser.specs.Parser as spec;
 ghost use Rattle.vernac_parser.specs.Parse.{assigns};
+ghost use Rattle.vernac_parser.specs.CommandWords.{word_at};
+ghost use Rattle.vernac_parser.specs.ParseCommand.{ended};
 ghost use Rattle.vernac_parser.specs.Numbers as number;
-ghost use Rattle.vernac_parser.specs.Reads.{Reads};
+ghost use Rattle.vernac_parser.specs.Reads.{Reads, ReadsAs};
 
+use crate::command_word::{CommandWord, word_of_text};
 use crate::number::NumberUse;
 use crate::sign;
 use crate::sign::Sign;
@@ -194,6 +197,28 @@ impl<'a> Tokens<'a> {
                     && sign::is_sign(sign::sign_at(rest), Sign::Assign)
             }
             [] => false,
+        }
+    }
+
+    /// The command's word that stands next.
+    pub fn command_word(&self) -> Option<CommandWord>
+        ensures { result ≡ word_at self.now }
+    {
+        match self.rest {
+            [first, ..] if sign::is_sign(self.sign, Sign::Identifier) => {
+                word_of_text(first.text.as_str())
+            }
+            _ => None,
+        }
+    }
+
+    /// The end, where no token is left.
+    pub fn end(&self) -> Result<(), Halt>
+        ensures { ReadsAs (λ _. tt) (ended self.now) result self.now }
+    {
+        match self.rest {
+            [] => Ok(()),
+            _ => Err(self.refuse()),
         }
     }
 }

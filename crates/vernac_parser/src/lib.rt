@@ -3,6 +3,8 @@
 
 mod atoms;
 mod binders;
+mod command_word;
+mod commands;
 mod cursor;
 mod grammar;
 mod laws;
@@ -13,4 +15,4 @@ mod rule;
 mod sign;
 
 pub use laws::one_tree;
-pub use parsing::{Parsed, parse_term};
+pub use parsing::{Parsed, parse_command, parse_term};

@@ -1,13 +1,13 @@
 //! Terms and commands of a token list.
 
 ghost use Rattle.std.specs.Prelude.{◌≡◌, ◌≤◌, ◌-◌, length, drop};
-ghost use Rattle.vernac_parser.specs.Answers.{IsParsed, IsWithin, next_place, stop_of};
+ghost use Rattle.vernac_parser.specs.Answers.{IsParsed, IsCommandParsed, IsWithin, next_place, stop_of};
 
 use crate::cursor::{Halt, Tokens};
-use crate::grammar::{MOST_NESTED, nested};
+use crate::grammar::{Grammar, MOST_NESTED, nested};
 use crate::rule::Rule;
 use base_core::{Place, Refusal, Stop};
-use coq_syntax::{SurfaceTerm, TokenList};
+use coq_syntax::{Command, SurfaceTerm, TokenList};
 use std::alloc::Global;
 
 /// A term, and the first place of the token list that no longer belongs to it.
@@ -60,6 +60,22 @@ pub fn parse_term(alloc: Global, tokens: &TokenList, at: usize) -> Result<Parsed
             tree,
             next: items.len() - rest.left(),
         }),
+        Err(halt) => Err(stop_of(tokens, halt)),
+    }
+}
+
+/// The command that the list is, whole.
+pub fn parse_command(alloc: Global, tokens: &TokenList) -> Result<Command, Stop>
+    ensures { IsCommandParsed tokens.now result }
+{
+    let grammar = Grammar {
+        alloc,
+        limit: MOST_NESTED,
+        nested,
+    };
+    let mut rest = Tokens::new(tokens.as_slice());
+    match grammar.command(&mut rest) {
+        Ok(command) => Ok(command),
         Err(halt) => Err(stop_of(tokens, halt)),
     }
 }
