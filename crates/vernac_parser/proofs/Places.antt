@@ -81,9 +81,9 @@ term_refused tokens at i (Refused code left) b h = halted tokens at i (whole_ter
 command_answers : (i : List Token) → IsWholeAnswer Command IsCommandOf command_fault i (whole_command i)
 command_answers = ?
 
-pub command_read : (items left : List Token) (c : Command) → whole_command items ≡ Ok (c, left) → IsCommandOf items c × (command_fault c ≡ None)
-command_read items left c e =
-    let h : IsWholeAnswer Command IsCommandOf command_fault items (Ok (c, left)) = subst (IsWholeAnswer Command IsCommandOf command_fault items) e (command_answers items) in (h.1, h.2)
+pub command_read : (items i left : List Token) (c : Command) → i ≡ items → whole_command i ≡ Ok (c, left) → IsCommandOf items c × (command_fault c ≡ None)
+command_read items i left c same e =
+    let h : IsWholeAnswer Command IsCommandOf command_fault i (Ok (c, left)) = subst (IsWholeAnswer Command IsCommandOf command_fault i) e (command_answers i) in (subst (λ l. IsCommandOf l c) same h.1, h.2)
 
 cut_command : (i : List Token) (f : Fault) → IsRefusedIn Command IsCommandOf command_fault i f → (used : List Token) × (i ≡ used ++ f.rest)
 cut_command i f (inl h) = (h.1.used, h.1.parts)
@@ -99,6 +99,7 @@ command_halted : (tokens : Tokens) (o : Outcome Command) (e : Halt) → IsWholeA
 command_halted tokens (Ok p) e h c = absurd (cc)
 command_halted tokens (Err f) e h c = let same : Refused f.code (length f.rest) ≡ e = cc in of_command_refusal tokens f e h same
 
-pub command_refused : (tokens : Tokens) (e : Halt) → (e ≢ NoMem → counted (whole_command tokens.items) ≡ Err e) → IsWithin e (length tokens.items) × IsCommandParsed tokens (Err (stop_of tokens e))
-command_refused tokens NoMem h = (tt, tt)
-command_refused tokens (Refused code left) h = command_halted tokens (whole_command tokens.items) (Refused code left) (command_answers tokens.items) (h (λ e. cc))
+pub command_refused : (tokens : Tokens) (i : List Token) (e : Halt) → i ≡ tokens.items → (e ≢ NoMem → counted (whole_command i) ≡ Err e) → IsWithin e (length tokens.items) × IsCommandParsed tokens (Err (stop_of tokens e))
+command_refused tokens i NoMem same h = (tt, tt)
+command_refused tokens i (Refused code left) same h =
+    command_halted tokens (whole_command i) (Refused code left) (subst (λ l. IsWholeAnswer Command IsCommandOf command_fault l (whole_command i)) same (command_answers i)) (h (λ e. cc))
