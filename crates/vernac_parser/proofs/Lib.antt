@@ -11,3 +11,5 @@ pub mod Taking
 pub mod LocalRules
 pub mod Refused
 pub mod Viable
+pub mod Shapes
+pub mod ViableAtoms
