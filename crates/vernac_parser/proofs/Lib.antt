@@ -13,3 +13,4 @@ pub mod Refused
 pub mod Viable
 pub mod Shapes
 pub mod ViableAtoms
+pub mod ViableRules

@@ -23,7 +23,7 @@ use Rattle.vernac_parser.proofs.Answered.{passed}
 use Rattle.vernac_parser.proofs.Viable.{Shape, Read, Partial, Answers, Viable, behind_more, behind_first, behind_none, behind_nested, none_first, first_none, answer_pure, answer_refuse, answer_token, answer_mark, answer_word, answer_number, answer_part, answer_last, answer_if, viable_repeated, answer_as}
 use Rattle.vernac_parser.proofs.Shapes.{spare, x_word, x_term, x_token, Tight, By, Down, OneName, MoreNames, SomeNames, one_argument, OneArgument, MoreArguments}
 
-viable_name : Viable OneName binder_name
+pub viable_name : Viable OneName binder_name
 unfolding binder_name
 viable_name i = answer_if OneName i (is_sign (sign_at i) sign.Wildcard) _ _
     (λ _. answer_token OneName i place_of sign.Wildcard (λ p. pure (Unnamed p)) [] i (x_token ∷ []) (Named x_word) refl tt (λ tail. refl) (λ tail. tt)
@@ -31,7 +31,7 @@ viable_name i = answer_if OneName i (is_sign (sign_at i) sign.Wildcard) _ _
     (λ _. answer_word OneName i (λ w. pure (Named w)) [] i (x_token ∷ []) (Named x_word) refl tt (λ tail. refl) (λ tail. tt)
         (λ w rest h. answer_pure OneName i (spelled.identifier w ∷ []) rest (Named w) h tt (λ tail. refl) (λ tail. refl) tt))
 
-viable_more_names : Viable MoreNames (repeated is_name binder_name with_name [])
+pub viable_more_names : Viable MoreNames (repeated is_name binder_name with_name [])
 viable_more_names = viable_repeated OneName MoreNames is_name binder_name with_name [] viable_name tt (λ tail. refl) (λ tail. refl) (λ x xs _ _. tt) (λ x xs tail. refl) (λ x xs tail. refl) (λ rest _. tt) (λ x xs rest _. tt)
 
 pub viable_names : Viable SomeNames names
