@@ -14,3 +14,4 @@ pub mod Viable
 pub mod Shapes
 pub mod ViableAtoms
 pub mod ViableRules
+pub mod ViableNested

@@ -49,7 +49,7 @@ pub record Partial {A : Type 0} (S : Shape A) (i : List Token) (f : Fault) : Typ
   pub spelled : (tail : List Token) → S.tokens value tail ≡ used ++ (more ++ tail)
   pub why : Why S value more f
 
-pub Answers : {A : Type 0} → Shape A → List Token → Outcome A → Type 0
+unfoldable pub Answers : {A : Type 0} → Shape A → List Token → Outcome A → Type 0
 Answers S i (Ok p) = Read S i p.0 p.1
 Answers S i (Err f) = Partial S i f
 

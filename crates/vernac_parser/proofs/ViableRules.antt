@@ -215,7 +215,7 @@ module _ (n : ℕ) (inner : Rule → Parser Term) (down : (rule : Rule) (i : Lis
       (λ _. answer_as (Open n) (By Whole n) i (open_form standard inner i) (λ t g. (g.0, omega (arith, g.1))) (λ t tail. refl) (λ t tail g. refl) (λ t rest g e. e) (viable_open i))
       (λ _. viable_t99 i)
 
-  viable_by_rule : (rule : Rule) → Viable (By rule n) (by_rule standard inner rule)
+  pub viable_by_rule : (rule : Rule) → Viable (By rule n) (by_rule standard inner rule)
   unfolding by_rule
   viable_by_rule Whole = viable_term
   viable_by_rule Right85 = viable_t85
