@@ -15,3 +15,4 @@ pub mod Shapes
 pub mod ViableAtoms
 pub mod ViableRules
 pub mod ViableNested
+pub mod Answering

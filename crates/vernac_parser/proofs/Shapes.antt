@@ -1,18 +1,17 @@
 -- What each rule of the grammar reads, and the shortest trees that finish one.
-use Rattle.std.proofs.Common.{◌≡◌, ℕ, zero, suc, ◌+◌, ◌==◌, ◌<◌, ◌≤◌, ◌⊎◌, inl, inr, Bool, true, false, cond, Option, None, Some, List, [], ◌∷◌, ◌++◌, codes, refl, arith}
+use Rattle.std.proofs.Common.{◌≡◌, ℕ, ◌==◌, ◌≤◌, ◌⊎◌, false, cond, None, List, ◌∷◌, codes}
 use Rattle.coq_syntax.specs.declared.token.Token.{Token}
 use Rattle.coq_syntax.specs.declared.words.TokenPlace.{TokenPlace}
 use Rattle.coq_syntax.specs.declared.words.Word.{Word}
 use Rattle.coq_syntax.specs.declared.words.BoundName.{BoundName}
-use Rattle.coq_syntax.specs.declared.words.BoundName.TheVariants.{Named, Unnamed}
 use Rattle.coq_syntax.specs.Trees.{Term, Name, Binders, GroupList, NoGroup, Annotation, Arguments, NoArgument}
-use Rattle.coq_syntax.specs.Spelled.{symbol, identifier, name, names, spells, binders, groups, annotation, arguments}
+use Rattle.coq_syntax.specs.Spelled.{identifier, name, names, spells, binders, groups, annotation, arguments}
 use Rattle.coq_syntax.specs.Limits.{open_level}
 use Rattle.coq_syntax.specs.Grammar.{level, IsTerm, IsClosed, IsRight, HasNames, AreBinders, AreGroups, IsAnnotation, AreArguments}
-use Rattle.coq_syntax.specs.Faults.{Fault, nested, fault, binders_fault, groups_fault, annotation_fault, arguments_fault}
+use Rattle.coq_syntax.specs.Faults.{nested, fault, binders_fault, groups_fault, annotation_fault, arguments_fault}
 use Rattle.vernac_parser.specs.declared.sign.Sign.TheVariants as sign
 use Rattle.vernac_parser.specs.Signs.{is_sign, sign_at}
-use Rattle.vernac_parser.specs.Parse.{Rule, Whole, Right85, Right80, Right75, Argument, Plain, Given, OneGroup, with_argument, with_group}
+use Rattle.vernac_parser.specs.Parse.{Rule, Whole, Right85, Right80, Right75, Argument, OneGroup, with_argument, with_group}
 use Rattle.vernac_parser.specs.declared.sign.Sign.{Sign}
 use Rattle.vernac_parser.proofs.Viable.{Shape}
 
@@ -69,10 +68,11 @@ Open n = record { good = λ t. IsTerm t × (level t ≡ open_level); tokens = sp
 
 abbrev pub Operand : Rule → ℕ → Shape Term
 Operand rule n = record {
-    good = λ t. IsTerm t × IsRight (most rule) t;
-    tokens = spells;
-    fault = λ t tail. cond (level t == open_level) (fault t n tail) (nested n (λ m. fault t m tail) (spells t tail));
-    follows = Behind rule }
+  good = λ t. IsTerm t × IsRight (most rule) t;
+  tokens = spells;
+  fault = λ t tail. cond (level t == open_level) (fault t n tail) (nested n (λ m. fault t m tail) (spells t tail));
+  follows = Behind rule;
+}
 
 abbrev pub OneName : Shape BoundName
 OneName = record { good = λ x. Unit {0}; tokens = λ x rest. name x ∷ rest; fault = λ x tail. None; follows = λ x rest. Unit {0} }

@@ -1,11 +1,11 @@
 -- What was read before a refusal begins a tree: how this goes from the parts of a rule to the rule.
-use Rattle.std.proofs.Common.{◌≡◌, ◌≢◌, ℕ, zero, suc, ◌+◌, ◌<◌, ◌≤◌, ◌⊎◌, inl, inr, Bool, true, false, cond, Option, None, Some, Result, Ok, Err, List, [], ◌∷◌, ◌++◌, length, take, refl, sym, ◌∙◌, ap, subst, arith, append_assoc, append-nil, length-append}
+use Rattle.std.proofs.Common.{◌≡◌, ℕ, zero, suc, ◌≤◌, ◌⊎◌, inl, inr, Bool, true, false, cond, Option, None, Some, Ok, Err, List, [], ◌∷◌, ◌++◌, length, refl, sym, ◌∙◌, ap, subst, arith, append_assoc, length-append}
 use Rattle.coq_syntax.specs.declared.token.Token.{Token}
 use Rattle.coq_syntax.specs.Faults.{Fault, first, nested, value_of}
 use Rattle.vernac_parser.specs.declared.sign.Sign.{Sign}
 use Rattle.vernac_parser.specs.declared.sign.Sign.TheVariants as sign
 use Rattle.vernac_parser.specs.Signs.{is_sign, sign_of, sign_at}
-use Rattle.vernac_parser.specs.Parser.{Outcome, Parser, and_then, ◌>>=◌, pure, refuse, refuse_as, choose, unexpected, taken, place_of, word_of, number, many, repeated}
+use Rattle.vernac_parser.specs.Parser.{Outcome, Parser, and_then, pure, refuse, unexpected, taken, place_of, word_of, number, many, repeated}
 use Rattle.vernac_parser.proofs.SignLaws.{mark, is_mark, mark_is, word_is, number_is}
 use Rattle.coq_syntax.specs.declared.words.TokenPlace.{TokenPlace}
 use Rattle.coq_syntax.specs.declared.words.Word.{Word}
@@ -83,18 +83,22 @@ first_none (Some f) = refl
 
 -- why a row is refused, where a part of it is
 why_part : {A B : Type 0} (S : Shape A) (T : Shape B) (x : A) (y : B) (more back : List Token) (f : Fault) → ((tail : List Token) → (g : Option Fault) × (T.fault y tail ≡ first (S.fault x (back ++ tail)) g) × IsBehind (length (back ++ tail)) g) → Why S x more f → Why T y (more ++ back) f
-why_part S T x y more back f fault (inl h) = inl (h.0, λ tail.
-    let whole : length ((more ++ back) ++ tail) ≡ length (more ++ (back ++ tail)) = ap length (append_assoc more back tail) in
-    subst (IsBehind (length ((more ++ back) ++ tail))) (sym (fault tail).1)
-    (behind_first _ _ _ (subst (λ k. IsBehind k (S.fault x (back ++ tail))) (sym whole) (h.1 (back ++ tail)))
-    (behind_more (length (back ++ tail)) (length ((more ++ back) ++ tail)) (fault tail).0 (omega (arith, whole, length-append more (back ++ tail))) (fault tail).2)))
+why_part S T x y more back f fault (inl h) = inl (
+  h.0,
+  λ tail.
+      let whole : length ((more ++ back) ++ tail) ≡ length (more ++ (back ++ tail)) = ap length (append_assoc more back tail) in
+      subst (IsBehind (length ((more ++ back) ++ tail))) (sym (fault tail).1)
+      (behind_first _ _ _ (subst (λ k. IsBehind k (S.fault x (back ++ tail))) (sym whole) (h.1 (back ++ tail)))
+      (behind_more (length (back ++ tail)) (length ((more ++ back) ++ tail)) (fault tail).0 (omega (arith, whole, length-append more (back ++ tail))) (fault tail).2)),
+)
 why_part S T x y more back f fault (inr h) = inr (record {
-    next = h.next;
-    after = h.after;
-    others = h.others ++ back;
-    place = h.place;
-    here = ap (λ w. w ++ back) h.here;
-    is = λ tail. (fault tail).1 ∙ ap (λ k. first k (fault tail).0) (h.is (back ++ tail)) ∙ ap (λ w. Some (record { code = f.code; rest = w })) (sym (append_assoc more back tail)) })
+  next = h.next;
+  after = h.after;
+  others = h.others ++ back;
+  place = h.place;
+  here = ap (λ w. w ++ back) h.here;
+  is = λ tail. (fault tail).1 ∙ ap (λ k. first k (fault tail).0) (h.is (back ++ tail)) ∙ ap (λ w. Some (record { code = f.code; rest = w })) (sym (append_assoc more back tail));
+})
 
 -- ---- a row, of which so many tokens were read
 
@@ -129,22 +133,23 @@ module _ {B : Type 0} (T : Shape B) (start : List Token) where
 
   -- a number, which is refused where its value is out of range
   pub answer_number : (is_out : ℕ → Bool) (code : ℕ) (k : Word → Parser B) (u i more back : List Token) (y : B) (build : Word → B) → start ≡ u ++ i → T.good y → ((tail : List Token) → T.tokens y tail ≡ u ++ (more ++ tail)) → ((tail : List Token) → IsBehind (length (more ++ tail)) (T.fault y tail))
-    → ((w : Word) → T.good (build w)) → ((w : Word) (tail : List Token) → T.tokens (build w) tail ≡ u ++ (spelled.number w ∷ (back ++ tail)))
-    → ((w : Word) (tail : List Token) → is_out (value_of w) ≡ true → T.fault (build w) tail ≡ Some (record { code = code; rest = spelled.number w ∷ (back ++ tail) }))
-    → ((w : Word) (rest : List Token) → is_out (value_of w) ≡ false → start ≡ (u ++ spelled.number w ∷ []) ++ rest → Answers T start (k w rest)) → Answers T start (and_then (number is_out code i) k)
+      → ((w : Word) → T.good (build w)) → ((w : Word) (tail : List Token) → T.tokens (build w) tail ≡ u ++ (spelled.number w ∷ (back ++ tail)))
+      → ((w : Word) (tail : List Token) → is_out (value_of w) ≡ true → T.fault (build w) tail ≡ Some (record { code = code; rest = spelled.number w ∷ (back ++ tail) }))
+      → ((w : Word) (rest : List Token) → is_out (value_of w) ≡ false → start ≡ (u ++ spelled.number w ∷ []) ++ rest → Answers T start (k w rest)) → Answers T start (and_then (number is_out code i) k)
   unfolding Answers
   answer_number is_out code k u [] more back y build h g z b good tokens fault later = answer_refuse u [] more y h g z b
   answer_number is_out code k u (t ∷ rest) more back y build h g z b good tokens fault later = by (is_sign (sign_of t) sign.Number) refl
     where
       in_range : (d : Bool) → is_out (value_of (word_of t)) ≡ d → t ≡ spelled.number (word_of t) → Answers T start (and_then (cond d (Err (record { code = code; rest = t ∷ rest })) (Ok (word_of t, rest))) k)
       in_range true e n = record {
-          used = u;
-          parts = h;
-          more = spelled.number (word_of t) ∷ back;
-          value = build (word_of t);
-          fits = good (word_of t);
-          spelled = tokens (word_of t);
-          why = inr (record { next = spelled.number (word_of t); after = rest; others = back; place = ap (λ x. x ∷ rest) n; here = refl; is = λ tail. fault (word_of t) tail e }) }
+        used = u;
+        parts = h;
+        more = spelled.number (word_of t) ∷ back;
+        value = build (word_of t);
+        fits = good (word_of t);
+        spelled = tokens (word_of t);
+        why = inr (record { next = spelled.number (word_of t); after = rest; others = back; place = ap (λ x. x ∷ rest) n; here = refl; is = λ tail. fault (word_of t) tail e });
+      }
       in_range false e n = later (word_of t) rest e (h ∙ ap (λ x. u ++ x ∷ rest) n ∙ sym (append_assoc u (spelled.number (word_of t) ∷ []) rest))
 
       by : (d : Bool) → is_sign (sign_of t) sign.Number ≡ d → Answers T start (and_then (number is_out code (t ∷ rest)) k)
@@ -153,32 +158,33 @@ module _ {B : Type 0} (T : Shape B) (start : List Token) where
 
   -- a part, which these tokens would finish to the row's value
   pub answer_part : {A : Type 0} (S : Shape A) (o : Outcome A) (k : A → Parser B) (u i back : List Token) (build : A → B) → start ≡ u ++ i → Answers S i o
-    → ((x : A) → S.good x → T.good (build x))
-    → ((x : A) (tail : List Token) → T.tokens (build x) tail ≡ u ++ S.tokens x (back ++ tail))
-    → ((x : A) (tail : List Token) → (g : Option Fault) × (T.fault (build x) tail ≡ first (S.fault x (back ++ tail)) g) × IsBehind (length (back ++ tail)) g)
-    → ((x : A) (rest : List Token) → (r : Read S i x rest) → start ≡ (u ++ r.word) ++ rest → Answers T start (k x rest))
-    → Answers T start (and_then o k)
+      → ((x : A) → S.good x → T.good (build x))
+      → ((x : A) (tail : List Token) → T.tokens (build x) tail ≡ u ++ S.tokens x (back ++ tail))
+      → ((x : A) (tail : List Token) → (g : Option Fault) × (T.fault (build x) tail ≡ first (S.fault x (back ++ tail)) g) × IsBehind (length (back ++ tail)) g)
+      → ((x : A) (rest : List Token) → (r : Read S i x rest) → start ≡ (u ++ r.word) ++ rest → Answers T start (k x rest))
+      → Answers T start (and_then o k)
   unfolding Answers
   answer_part {A} S o' k u i back build h a good tokens fault later = by o' a
     where
       by : (o : Outcome A) → Answers S i o → Answers T start (and_then o k)
       by (Ok x) r = later x.0 x.1 r (h ∙ ap (λ w. u ++ w) r.parts ∙ sym (append_assoc u r.word x.1))
       by (Err f) r = record {
-          used = u ++ r.used;
-          parts = h ∙ ap (λ w. u ++ w) r.parts ∙ sym (append_assoc u r.used f.rest);
-          more = r.more ++ back;
-          value = build r.value;
-          fits = good r.value r.fits;
-          spelled = λ tail. tokens r.value tail ∙ ap (λ w. u ++ w) (r.spelled (back ++ tail)) ∙ sym (append_assoc u r.used _) ∙ ap (λ w. (u ++ r.used) ++ w) (sym (append_assoc r.more back tail));
-          why = why_part S T r.value (build r.value) r.more back f (fault r.value) r.why }
+        used = u ++ r.used;
+        parts = h ∙ ap (λ w. u ++ w) r.parts ∙ sym (append_assoc u r.used f.rest);
+        more = r.more ++ back;
+        value = build r.value;
+        fits = good r.value r.fits;
+        spelled = λ tail. tokens r.value tail ∙ ap (λ w. u ++ w) (r.spelled (back ++ tail)) ∙ sym (append_assoc u r.used _) ∙ ap (λ w. (u ++ r.used) ++ w) (sym (append_assoc r.more back tail));
+        why = why_part S T r.value (build r.value) r.more back f (fault r.value) r.why;
+      }
 
   -- the last part
   pub answer_last : {A : Type 0} (S : Shape A) (o : Outcome A) (u i : List Token) (build : A → B) → start ≡ u ++ i → Answers S i o
-    → ((x : A) → S.good x → T.good (build x))
-    → ((x : A) (tail : List Token) → T.tokens (build x) tail ≡ u ++ S.tokens x tail)
-    → ((x : A) (tail : List Token) → T.fault (build x) tail ≡ S.fault x tail)
-    → ((x : A) (rest : List Token) → S.good x → S.follows x rest → T.follows (build x) rest)
-    → Answers T start (and_then o (λ x. pure (build x)))
+      → ((x : A) → S.good x → T.good (build x))
+      → ((x : A) (tail : List Token) → T.tokens (build x) tail ≡ u ++ S.tokens x tail)
+      → ((x : A) (tail : List Token) → T.fault (build x) tail ≡ S.fault x tail)
+      → ((x : A) (rest : List Token) → S.good x → S.follows x rest → T.follows (build x) rest)
+      → Answers T start (and_then o (λ x. pure (build x)))
   unfolding Answers
   answer_last S o u i build h a good tokens fault follows =
       answer_part S o (λ x. pure (build x)) u i [] build h a good tokens (λ x tail. (None, fault x tail ∙ sym (first_none (S.fault x tail)), tt))
@@ -192,26 +198,26 @@ answer_if S start false o o' f g = g refl
 
 -- lists: the shape of a list is that of its items, one after another
 module _ {A B : Type 0} (S : Shape A) (T : Shape B) (begins : Sign → Bool) (item : Parser A) (front : A → B → B) (none : B) (items : Viable S item)
-  (none_good : T.good none) (none_tokens : (tail : List Token) → T.tokens none tail ≡ tail) (none_fault : (tail : List Token) → T.fault none tail ≡ None)
-  (good : (x : A) (xs : B) → S.good x → T.good xs → T.good (front x xs))
-  (tokens : (x : A) (xs : B) (tail : List Token) → T.tokens (front x xs) tail ≡ S.tokens x (T.tokens xs tail))
-  (fault : (x : A) (xs : B) (tail : List Token) → T.fault (front x xs) tail ≡ first (S.fault x (T.tokens xs tail)) (T.fault xs tail))
-  (last : (rest : List Token) → begins (sign_at rest) ≡ false → T.follows none rest)
-  (follows : (x : A) (xs : B) (rest : List Token) → T.follows xs rest → T.follows (front x xs) rest) where
+    (none_good : T.good none) (none_tokens : (tail : List Token) → T.tokens none tail ≡ tail) (none_fault : (tail : List Token) → T.fault none tail ≡ None)
+    (good : (x : A) (xs : B) → S.good x → T.good xs → T.good (front x xs))
+    (tokens : (x : A) (xs : B) (tail : List Token) → T.tokens (front x xs) tail ≡ S.tokens x (T.tokens xs tail))
+    (fault : (x : A) (xs : B) (tail : List Token) → T.fault (front x xs) tail ≡ first (S.fault x (T.tokens xs tail)) (T.fault xs tail))
+    (last : (rest : List Token) → begins (sign_at rest) ≡ false → T.follows none rest)
+    (follows : (x : A) (xs : B) (rest : List Token) → T.follows xs rest → T.follows (front x xs) rest) where
   pub viable_many : (n : ℕ) → Viable T (many begins item front none n)
   unfolding many Answers
   viable_many zero i = answer_refuse T i [] i [] none refl none_good none_tokens (λ tail. behind_none (length tail) _ (none_fault tail))
   viable_many (suc n) i =
       answer_if T i (begins (sign_at i)) _ _
       (λ _. answer_part T i S (item i) _ [] i [] (λ x. front x none) refl (items i)
-          (λ x g. good x none g none_good)
-          (λ x tail. tokens x none tail ∙ ap (S.tokens x) (none_tokens tail))
-          (λ x tail. (None, fault x none tail ∙ ap (first (S.fault x (T.tokens none tail))) (none_fault tail) ∙ ap (λ w. first (S.fault x w) None) (none_tokens tail), tt))
-          (λ x rest r e. answer_last T i T _ r.word rest (front x) e (viable_many n rest)
-              (λ xs g. good x xs r.fits g)
-              (λ xs tail. tokens x xs tail ∙ r.spelled (T.tokens xs tail))
-              (λ xs tail. fault x xs tail ∙ ap (λ f. first f (T.fault xs tail)) (r.sound (T.tokens xs tail)))
-              (λ xs w _ h. follows x xs w h)))
+      (λ x g. good x none g none_good)
+      (λ x tail. tokens x none tail ∙ ap (S.tokens x) (none_tokens tail))
+      (λ x tail. (None, fault x none tail ∙ ap (first (S.fault x (T.tokens none tail))) (none_fault tail) ∙ ap (λ w. first (S.fault x w) None) (none_tokens tail), tt))
+      (λ x rest r e. answer_last T i T _ r.word rest (front x) e (viable_many n rest)
+      (λ xs g. good x xs r.fits g)
+      (λ xs tail. tokens x xs tail ∙ r.spelled (T.tokens xs tail))
+      (λ xs tail. fault x xs tail ∙ ap (λ f. first f (T.fault xs tail)) (r.sound (T.tokens xs tail)))
+      (λ xs w _ h. follows x xs w h)))
       (λ e. answer_pure T i [] i none refl none_good none_tokens none_fault (last i e))
 
   pub viable_repeated : Viable T (repeated begins item front none)

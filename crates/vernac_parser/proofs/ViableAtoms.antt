@@ -1,35 +1,32 @@
 -- What was read before a refusal begins a tree: names, atoms, arguments and applications.
-use Rattle.std.proofs.Common.{◌≡◌, ◌≢◌, ℕ, zero, suc, ◌+◌, ◌<◌, ◌≤◌, ◌⊎◌, inl, inr, Bool, true, false, cond, Option, None, Some, Result, Ok, Err, List, [], ◌∷◌, ◌++◌, codes, length, refl, sym, ◌∙◌, ap, subst, arith, append_assoc}
+use Rattle.std.proofs.Common.{◌≡◌, ℕ, ◌≤◌, false, cond, None, Some, List, [], ◌∷◌, ◌++◌, codes, refl, sym, ◌∙◌, ap, arith, append_assoc}
 use Rattle.coq_syntax.specs.declared.token.Token.{Token}
 use Rattle.coq_syntax.specs.declared.words.TokenPlace.{TokenPlace}
 use Rattle.coq_syntax.specs.declared.words.Word.{Word}
-use Rattle.coq_syntax.specs.declared.words.BoundName.{BoundName}
 use Rattle.coq_syntax.specs.declared.words.BoundName.TheVariants.{Named, Unnamed}
 use Rattle.coq_syntax.specs.Trees.{Term, Forall, Fun, Let, Arrow, Or, And, Not, Equal, Apply, Name, PropSort, SetSort, TypeSort, TypeAt, Numeral, Parenthesized, Binders, Names, Groups, GroupList, NoGroup, Group, Annotation, Untyped, Typed, Arguments, NoArgument, Positional}
 use Rattle.coq_syntax.specs.Trees as tree
 use Rattle.coq_syntax.specs.Spelled as spelled
 use Rattle.coq_syntax.specs.Spelled.{spells, symbol, reserved}
-use Rattle.coq_syntax.specs.Limits.{too_deep, too_great, no_level}
-use Rattle.coq_syntax.specs.Grammar.{level, IsTerm, HasArguments, AreArguments}
-use Rattle.coq_syntax.specs.Faults.{Fault, first, nested, value_of, fault, arguments_fault}
-use Rattle.vernac_parser.specs.declared.sign.Sign.{Sign}
+use Rattle.coq_syntax.specs.Limits.{too_great, no_level}
+use Rattle.coq_syntax.specs.Grammar.{level, IsTerm, AreArguments}
+use Rattle.coq_syntax.specs.Faults.{first, value_of, fault, arguments_fault}
 use Rattle.vernac_parser.specs.declared.sign.Sign.TheVariants as sign
-use Rattle.vernac_parser.specs.Signs.{is_sign, sign_of, sign_at, begins_atom, begins_open, begins_term}
-use Rattle.vernac_parser.specs.Parser.{Outcome, Parser, and_then, ◌>>=◌, pure, refuse, refuse_as, choose, when, unexpected, place_of, word_of, taken, take, identifier, number, many, repeated}
-use Rattle.vernac_parser.specs.Parse.{Rule, Whole, Checks, standard, is_name, with_name, binder_name, names, Argument, Plain, Given, OneGroup, with_argument, applied, assigns, type_sort, parenthesized, given, atom, argument_behind, argument, arguments, application}
-use Rattle.vernac_parser.specs.Meets.{IsBehind}
+use Rattle.vernac_parser.specs.Signs.{is_sign, sign_at, begins_atom}
+use Rattle.vernac_parser.specs.Parser.{Outcome, Parser, and_then, ◌>>=◌, pure, place_of, take, number, repeated}
+use Rattle.vernac_parser.specs.Parse.{Rule, Whole, standard, is_name, with_name, binder_name, names, Argument, Plain, Given, with_argument, applied, assigns, type_sort, parenthesized, given, atom, argument_behind, argument, arguments, application}
 use Rattle.vernac_parser.proofs.SignLaws.{wildcard_is}
 use Rattle.vernac_parser.proofs.Answered.{passed}
-use Rattle.vernac_parser.proofs.Viable.{Shape, Read, Partial, Answers, Viable, behind_more, behind_first, behind_none, behind_nested, none_first, first_none, answer_pure, answer_refuse, answer_token, answer_mark, answer_word, answer_number, answer_part, answer_last, answer_if, viable_repeated, answer_as}
-use Rattle.vernac_parser.proofs.Shapes.{spare, x_word, x_term, x_token, Tight, By, Down, OneName, MoreNames, SomeNames, one_argument, OneArgument, MoreArguments}
+use Rattle.vernac_parser.proofs.Viable.{Answers, Viable, behind_first, behind_none, behind_nested, none_first, first_none, answer_pure, answer_token, answer_mark, answer_word, answer_number, answer_part, answer_last, answer_if, viable_repeated}
+use Rattle.vernac_parser.proofs.Shapes.{spare, x_word, x_term, x_token, Tight, Down, OneName, MoreNames, SomeNames, one_argument, OneArgument, MoreArguments}
 
 pub viable_name : Viable OneName binder_name
 unfolding binder_name
 viable_name i = answer_if OneName i (is_sign (sign_at i) sign.Wildcard) _ _
     (λ _. answer_token OneName i place_of sign.Wildcard (λ p. pure (Unnamed p)) [] i (x_token ∷ []) (Named x_word) refl tt (λ tail. refl) (λ tail. tt)
-        (λ t rest e h. answer_pure OneName i (t ∷ []) rest (Unnamed (place_of t)) h tt (λ tail. ap (λ s. s ∷ tail) (sym (wildcard_is t e))) (λ tail. refl) tt))
+    (λ t rest e h. answer_pure OneName i (t ∷ []) rest (Unnamed (place_of t)) h tt (λ tail. ap (λ s. s ∷ tail) (sym (wildcard_is t e))) (λ tail. refl) tt))
     (λ _. answer_word OneName i (λ w. pure (Named w)) [] i (x_token ∷ []) (Named x_word) refl tt (λ tail. refl) (λ tail. tt)
-        (λ w rest h. answer_pure OneName i (spelled.identifier w ∷ []) rest (Named w) h tt (λ tail. refl) (λ tail. refl) tt))
+    (λ w rest h. answer_pure OneName i (spelled.identifier w ∷ []) rest (Named w) h tt (λ tail. refl) (λ tail. refl) tt))
 
 pub viable_more_names : Viable MoreNames (repeated is_name binder_name with_name [])
 viable_more_names = viable_repeated OneName MoreNames is_name binder_name with_name [] viable_name tt (λ tail. refl) (λ tail. refl) (λ x xs _ _. tt) (λ x xs tail. refl) (λ x xs tail. refl) (λ rest _. tt) (λ x xs rest _. tt)
@@ -85,7 +82,7 @@ module _ (n : ℕ) (inner : Rule → Parser Term) (whole : Viable (Down Whole n)
       (λ _. answer_mark (Tight 0 n) i sign.Open (parenthesized standard inner) [] i (x_token ∷ []) x_term refl refl (tt, omega arith) (λ tail. refl) (λ tail. tt) (λ p rest h. viable_parenthesized i p rest h))
       (λ _. answer_if (Tight 0 n) i (is_sign (sign_at i) sign.Number) _ _
       (λ _. answer_number (Tight 0 n) i standard.numeral too_great (λ w. pure (Numeral w)) [] i (x_token ∷ []) [] x_term Numeral refl (tt, omega arith) (λ tail. refl) (λ tail. tt) (λ w. (tt, omega arith)) (λ w tail. refl) (λ w tail e. ap (λ b. cond b (Some (record { code = too_great; rest = spelled.number w ∷ tail })) None) e)
-          (λ w rest e h. answer_pure (Tight 0 n) i (spelled.number w ∷ []) rest (Numeral w) h (tt, omega arith) (λ tail. refl) (λ tail. no_numeral_fault w n tail e) tt))
+      (λ w rest e h. answer_pure (Tight 0 n) i (spelled.number w ∷ []) rest (Numeral w) h (tt, omega arith) (λ tail. refl) (λ tail. no_numeral_fault w n tail e) tt))
       (λ _. answer_if (Tight 0 n) i (is_sign (sign_at i) sign.PropSort) _ _
       (λ _. answer_mark (Tight 0 n) i sign.PropSort (λ p. pure (PropSort p)) [] i (x_token ∷ []) x_term refl refl (tt, omega arith) (λ tail. refl) (λ tail. tt) (λ p rest h. answer_pure (Tight 0 n) i (reserved (codes "Prop") p ∷ []) rest (PropSort p) h (tt, omega arith) (λ tail. refl) (λ tail. refl) tt))
       (λ _. answer_if (Tight 0 n) i (is_sign (sign_at i) sign.SetSort) _ _

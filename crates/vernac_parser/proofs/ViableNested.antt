@@ -1,19 +1,16 @@
 -- What was read before a refusal begins a tree: the rules one level down, and a term that stands by itself.
-use Rattle.std.proofs.Common.{◌≡◌, ◌≢◌, ℕ, zero, suc, ◌+◌, ◌<◌, ◌≤◌, ◌⊎◌, inl, inr, Bool, true, false, cond, Option, None, Some, Result, Ok, Err, List, [], ◌∷◌, ◌++◌, codes, length, refl, sym, ◌∙◌, ap, subst, arith, append_assoc}
+use Rattle.std.proofs.Common.{◌≡◌, ℕ, zero, suc, ◌≤◌, inl, inr, Bool, true, false, Some, Err, List, [], ◌∷◌, ◌++◌, codes, refl, sym, ◌∙◌, ap, arith}
 use Rattle.coq_syntax.specs.declared.token.Token.{Token}
-use Rattle.coq_syntax.specs.declared.words.TokenPlace.{TokenPlace}
-use Rattle.coq_syntax.specs.declared.words.Word.{Word}
 use Rattle.coq_syntax.specs.declared.words.BoundName.TheVariants.{Named}
 use Rattle.coq_syntax.specs.Trees.{Term, Forall, Fun, Let, Not, Name, PropSort, SetSort, TypeSort, Numeral, Parenthesized, Names, Untyped}
 use Rattle.coq_syntax.specs.Spelled as spelled
 use Rattle.coq_syntax.specs.Spelled.{spells, symbol, reserved}
 use Rattle.coq_syntax.specs.Limits.{too_deep}
 use Rattle.coq_syntax.specs.Grammar.{level, IsTerm}
-use Rattle.coq_syntax.specs.Faults.{Fault}
 use Rattle.vernac_parser.specs.declared.sign.Sign.{Sign}
 use Rattle.vernac_parser.specs.declared.sign.Sign.TheVariants as sign
-use Rattle.vernac_parser.specs.Signs.{is_sign, sign_of, sign_at, begins_open, begins_term}
-use Rattle.vernac_parser.specs.Parser.{Outcome, refuse_as, unexpected, place_of, word_of}
+use Rattle.vernac_parser.specs.Signs.{sign_of, sign_at, begins_open, begins_term}
+use Rattle.vernac_parser.specs.Parser.{place_of, word_of}
 use Rattle.vernac_parser.specs.Parse.{Rule, Whole, Right85, Right80, Right75, standard, nested}
 use Rattle.vernac_parser.proofs.SignLaws.{mark, mark_is, word_is, number_is, is_same}
 use Rattle.vernac_parser.proofs.Viable.{Answers, answer_if, answer_refuse}
@@ -71,13 +68,14 @@ too_deep_here rule [] b e = absurd (let bad : false ≡ true = e in cc)
 too_deep_here rule (t ∷ rest) b e =
     let s : Started t (most rule) = started rule t rest e b in
     record {
-        used = [];
-        parts = refl;
-        more = t ∷ s.others;
-        value = s.value;
-        fits = (s.fits, s.low);
-        spelled = s.spelled;
-        why = inr (record { next = t; after = rest; others = s.others; place = refl; here = refl; is = λ tail. ap (λ w. Some (record { code = too_deep; rest = w })) (s.spelled tail) }) }
+      used = [];
+      parts = refl;
+      more = t ∷ s.others;
+      value = s.value;
+      fits = (s.fits, s.low);
+      spelled = s.spelled;
+      why = inr (record { next = t; after = rest; others = s.others; place = refl; here = refl; is = λ tail. ap (λ w. Some (record { code = too_deep; rest = w })) (s.spelled tail) });
+    }
 
 -- a rule one level down
 pub viable_down : (n : ℕ) (rule : Rule) (i : List Token) → Begins rule i → Answers (Down rule n) i (nested standard n rule i)

@@ -1,28 +1,22 @@
 -- What was read before a refusal begins a tree: binders, open forms, operators, and the rules one level down.
-use Rattle.std.proofs.Common.{◌≡◌, ◌≢◌, ℕ, zero, suc, ◌+◌, ◌==◌, ◌<◌, ◌≤◌, ◌⊎◌, inl, inr, Bool, true, false, cond, Option, None, Some, Result, Ok, Err, List, [], ◌∷◌, ◌++◌, codes, length, refl, sym, ◌∙◌, ap, subst, arith, append_assoc}
+use Rattle.std.proofs.Common.{◌≡◌, ℕ, suc, ◌==◌, ◌≤◌, inl, inr, true, false, cond, None, Ok, Err, List, [], ◌∷◌, ◌++◌, codes, length, refl, sym, ◌∙◌, ap, subst, arith, append_assoc}
 use Rattle.coq_syntax.specs.declared.token.Token.{Token}
-use Rattle.coq_syntax.specs.declared.words.TokenPlace.{TokenPlace}
-use Rattle.coq_syntax.specs.declared.words.Word.{Word}
-use Rattle.coq_syntax.specs.declared.words.BoundName.{BoundName}
-use Rattle.coq_syntax.specs.declared.words.BoundName.TheVariants.{Named, Unnamed}
-use Rattle.coq_syntax.specs.Trees.{Term, Forall, Fun, Let, Arrow, Or, And, Not, Equal, Apply, Name, PropSort, SetSort, TypeSort, TypeAt, Numeral, Parenthesized, Binders, Names, Groups, GroupList, NoGroup, Group, Annotation, Untyped, Typed, Arguments, NoArgument, Positional}
+use Rattle.coq_syntax.specs.declared.words.BoundName.TheVariants.{Named}
+use Rattle.coq_syntax.specs.Trees.{Term, Forall, Fun, Let, Arrow, Or, And, Not, Equal, Names, Groups, GroupList, NoGroup, Untyped, Typed}
 use Rattle.coq_syntax.specs.Spelled as spelled
 use Rattle.coq_syntax.specs.Spelled.{spells, symbol, reserved}
-use Rattle.coq_syntax.specs.Limits.{open_level, too_deep}
-use Rattle.coq_syntax.specs.Grammar.{level, IsTerm, IsClosed, IsRight, AreGroups}
-use Rattle.coq_syntax.specs.Faults.{Fault, first, nested as nested_fault, fault, binders_fault, groups_fault, annotation_fault}
-use Rattle.vernac_parser.specs.declared.sign.Sign.{Sign}
+use Rattle.coq_syntax.specs.Limits.{open_level}
+use Rattle.coq_syntax.specs.Grammar.{level, IsClosed, AreGroups}
+use Rattle.coq_syntax.specs.Faults.{first, nested as nested_fault, fault, groups_fault}
 use Rattle.vernac_parser.specs.declared.sign.Sign.TheVariants as sign
-use Rattle.vernac_parser.specs.Signs.{is_sign, sign_of, sign_at, begins_open, begins_term}
-use Rattle.vernac_parser.specs.Parser.{Outcome, Parser, and_then, ◌>>=◌, ◌<$>◌, pure, refuse, refuse_as, choose, unexpected, place_of, word_of, take, many, repeated}
-use Rattle.vernac_parser.specs.Parse.{Rule, Whole, Right85, Right80, Right75, standard, binder_name, names, OneGroup, with_group, application, group, groups, binders, annotation, forall_form, fun_form, let_form, equal_behind, t70, operand, t75, and_behind, t80, or_behind, t85, arrow_behind, t99, open_form, term, by_rule, nested}
+use Rattle.vernac_parser.specs.Signs.{is_sign, sign_at, begins_open}
+use Rattle.vernac_parser.specs.Parser.{Outcome, Parser, and_then, ◌>>=◌, pure, many}
+use Rattle.vernac_parser.specs.Parse.{Rule, Whole, Right85, Right80, Right75, standard, binder_name, names, OneGroup, with_group, application, group, groups, binders, annotation, forall_form, fun_form, let_form, equal_behind, t70, operand, t75, and_behind, t80, or_behind, t85, arrow_behind, t99, open_form, term, by_rule}
 use Rattle.vernac_parser.specs.Meets.{IsBehind}
-use Rattle.vernac_parser.proofs.SignLaws.{mark, mark_is, word_is, number_is, is_same}
 use Rattle.vernac_parser.proofs.Answered.{took, passed}
-use Rattle.vernac_parser.proofs.Heads.{levels}
 use Rattle.vernac_parser.proofs.Tower.{not_the_open_level}
-use Rattle.vernac_parser.proofs.Viable.{Shape, Read, Partial, Passed, Answers, Viable, behind_more, behind_first, behind_none, behind_nested, none_first, first_none, answer_pure, answer_refuse, answer_token, answer_mark, answer_word, answer_number, answer_part, answer_last, answer_if, viable_many, viable_repeated, answer_as}
-use Rattle.vernac_parser.proofs.Shapes.{spare, x_word, x_term, x_token, No, Ends, ClosedOrEnds, Behind, most, Tight, By, Down, Open, Operand, OneName, MoreNames, SomeNames, one_group, AGroup, MoreGroups, SomeBinders, AnAnnotation}
+use Rattle.vernac_parser.proofs.Viable.{Read, Answers, Viable, behind_first, behind_none, behind_nested, none_first, first_none, answer_pure, answer_mark, answer_part, answer_last, answer_if, viable_many, answer_as}
+use Rattle.vernac_parser.proofs.Shapes.{spare, x_word, x_term, x_token, Ends, ClosedOrEnds, Behind, most, Tight, By, Down, Open, Operand, OneName, SomeNames, one_group, AGroup, MoreGroups, SomeBinders, AnAnnotation}
 use Rattle.vernac_parser.proofs.ViableAtoms.{viable_name, viable_names, viable_application}
 
 -- where a rule may begin: a whole term anywhere, an operand where no open form does

@@ -6,6 +6,7 @@ use Rattle.coq_syntax.specs.Grammar.{IsTermOf}
 use Rattle.coq_syntax.specs.Limits.{too_deep}
 use Rattle.coq_syntax.specs.Faults.{Fault, term_fault}
 use Rattle.vernac_parser.specs.Parser.{Outcome, unexpected}
+use Rattle.vernac_parser.specs.Parse.{whole_term}
 
 -- some list that begins with these tokens has a tree
 abbrev pub BeginTerm : List Token → Type 0
@@ -62,6 +63,10 @@ IsRefused tokens f = (f.code ≡ unexpected) × IsUnexpected tokens f.rest ⊎ I
 abbrev pub IsAnswer : List Token → Outcome Term → Type 0
 IsAnswer tokens (Ok p) = IsRead tokens p.0 p.1
 IsAnswer tokens (Err f) = IsRefused tokens f
+
+-- every list gets such an answer by the rules
+abbrev pub AnswersMeet : Type 0
+AnswersMeet = (tokens : List Token) → IsAnswer tokens (whole_term tokens)
 
 -- ---- one tree
 

@@ -4,4 +4,4 @@
 mod laws;
 mod sign;
 
-pub use laws::one_tree;
+pub use laws::{law_of_answers, one_tree};
