@@ -2,16 +2,22 @@
 use Rattle.std.proofs.Common.{◌≡◌, inl, inr, Some, Ok, Err, List, [], ◌∷◌, ◌++◌, length, refl, sym, ◌∙◌, ap, subst, append-nil}
 use Rattle.coq_syntax.specs.declared.token.Token.{Token}
 use Rattle.coq_syntax.specs.Trees.{Term}
+use Rattle.coq_syntax.specs.Grammar.{IsTermOf}
 use Rattle.coq_syntax.specs.Limits.{most_nested}
 use Rattle.coq_syntax.specs.Faults.{Fault, term_fault}
 use Rattle.vernac_parser.specs.Parser.{Outcome, unexpected}
 use Rattle.vernac_parser.specs.Parse.{Whole, whole_term}
-use Rattle.vernac_parser.specs.Meets.{IsBehind, IsRead, IsUnexpected, IsLimit, IsRefused, IsAnswer, AnswersMeet}
+use Rattle.vernac_parser.specs.Refusals.{IsBehind, IsUnexpected, IsLimit, NoTree, AtEnd}
+use Rattle.vernac_parser.specs.Meets.{fault_of_term, IsRead, IsRefused, IsAnswer, AnswersMeet}
 use Rattle.vernac_parser.proofs.Local
 use Rattle.vernac_parser.proofs.Refused.{is_longest, no_tree, each_limit, Plain}
 use Rattle.vernac_parser.proofs.Viable.{Read, Partial, Passed, Why, Answers}
 use Rattle.vernac_parser.proofs.Shapes.{Down}
 use Rattle.vernac_parser.proofs.ViableNested.{viable_down}
+
+at_end : (rest : List Token) (P : Type 0) → P → AtEnd rest P
+at_end [] P h = h
+at_end (t ∷ w) P h = tt
 
 met_read : (i : List Token) (t : Term) (rest : List Token) → whole_term i ≡ Ok (t, rest) → Read (Down Whole most_nested) i t rest → IsRead i t rest
 met_read i t rest o r = record {
@@ -22,7 +28,7 @@ met_read i t rest o r = record {
   longest = is_longest i r.word rest r.parts (ap Local.stop o) (subst Plain (sym o) tt);
 }
 
-met_unexpected : (i : List Token) (f : Fault) → whole_term i ≡ Err f → (r : Partial (Down Whole most_nested) i f) → f.code ≡ unexpected → ((tail : List Token) → IsBehind (length (r.more ++ tail)) (term_fault r.value tail)) → IsUnexpected i f.rest
+met_unexpected : (i : List Token) (f : Fault) → whole_term i ≡ Err f → (r : Partial (Down Whole most_nested) i f) → f.code ≡ unexpected → ((tail : List Token) → IsBehind (length (r.more ++ tail)) (term_fault r.value tail)) → IsUnexpected IsTermOf fault_of_term i f.rest
 met_unexpected i f o r c h = record {
   used = r.used;
   parts = r.parts;
@@ -30,11 +36,11 @@ met_unexpected i f o r c h = record {
   tree = r.value;
   begun = (r.fits.0, r.spelled [] ∙ ap (λ w. r.used ++ w) (append-nil r.more));
   sound = subst (λ w. IsBehind (length w) (term_fault r.value [])) (append-nil r.more) (h []);
-  no_tree = no_tree i r.used f.rest f r.parts o refl c;
+  early = at_end f.rest (NoTree IsTermOf r.used) (no_tree i r.used f.rest f r.parts o refl c);
   longest = is_longest i r.used f.rest r.parts (ap Local.stop o) (subst Plain (sym o) c);
 }
 
-met_limit : (i : List Token) (f : Fault) → whole_term i ≡ Err f → (r : Partial (Down Whole most_nested) i f) → Passed (Down Whole most_nested) r.value r.more f → IsLimit i f
+met_limit : (i : List Token) (f : Fault) → whole_term i ≡ Err f → (r : Partial (Down Whole most_nested) i f) → Passed (Down Whole most_nested) r.value r.more f → IsLimit IsTermOf fault_of_term i f
 met_limit i f o r h =
     let parts : i ≡ r.used ++ h.next ∷ h.after = r.parts ∙ ap (λ w. r.used ++ w) h.place in
     let more : r.more ++ [] ≡ h.next ∷ h.others = append-nil r.more ∙ h.here in
@@ -52,7 +58,8 @@ met_limit i f o r h =
     }
 
 met_refused : (i : List Token) (f : Fault) → whole_term i ≡ Err f → (r : Partial (Down Whole most_nested) i f) → Why (Down Whole most_nested) r.value r.more f → IsRefused i f
-met_refused i f o r (inl h) = inl (h.0, met_unexpected i f o r h.0 h.1)
+unfolding met_unexpected
+met_refused i f o r (inl h) = inl (h.0, met_unexpected i f o r h.0 h.1, no_tree i r.used f.rest f r.parts o refl h.0)
 met_refused i f o r (inr h) = inr (met_limit i f o r h)
 
 met : (i : List Token) (o : Outcome Term) → whole_term i ≡ o → Answers (Down Whole most_nested) i o → IsAnswer i o

@@ -8,7 +8,7 @@ use Rattle.coq_syntax.specs.Limits.{open_level, most_nested, too_deep}
 use Rattle.coq_syntax.specs.Faults.{Fault, first, nested, value_of, fault, binders_fault, groups_fault, annotation_fault, arguments_fault, term_fault}
 use Rattle.vernac_parser.specs.Parser.{Outcome, unexpected}
 use Rattle.vernac_parser.specs.Parse.{standard, Whole, whole_term}
-use Rattle.vernac_parser.specs.Meets.{IsLongest}
+use Rattle.vernac_parser.specs.Refusals.{IsLongest, NoTree}
 use Rattle.vernac_parser.proofs.Answered.{answered}
 use Rattle.vernac_parser.proofs.Unique.{complete_term}
 use Rattle.vernac_parser.proofs.Local.{stop, moved, Grade, Two, One, Ended, Agrees, Allowed}
@@ -101,13 +101,13 @@ plain_one : (o : Outcome Term) → Plain o → Allowed One o
 plain_one (Ok p) h = tt
 plain_one (Err f) h = λ e. omega (arith, e, h)
 
-pub is_longest : (i u v : List Token) → i ≡ u ++ v → stop (whole_term i) ≡ v → Plain (whole_term i) → IsLongest u v
+pub is_longest : (i u v : List Token) → i ≡ u ++ v → stop (whole_term i) ≡ v → Plain (whole_term i) → IsLongest IsTermOf u v
 is_longest i u [] h s p = tt
 is_longest i u (next ∷ w) h s p = λ begins.
     let tree : IsTermOf (u ++ next ∷ begins.0) begins.1 = (begins.2.0, begins.2.1 ∙ append_assoc u (next ∷ []) begins.0) in
     not_wrong (term_fault begins.1 []) begins.1 (term_sound begins.1 []) (subst Wrong (sym (same_answer One i u (next ∷ w) (next ∷ begins.0) begins.1 h s (plain_one (whole_term i) p) refl tree)) (wrong_at (whole_term i) next begins.0 p))
 
-pub no_tree : (i u v : List Token) (f : Fault) → i ≡ u ++ v → whole_term i ≡ Err f → f.rest ≡ v → f.code ≡ unexpected → (t : Term) → IsTermOf u t → ⊥
+pub no_tree : (i u v : List Token) (f : Fault) → i ≡ u ++ v → whole_term i ≡ Err f → f.rest ≡ v → f.code ≡ unexpected → NoTree IsTermOf u
 no_tree i u v f h o s c t tree =
     let whole : IsTermOf (u ++ []) t = (tree.0, tree.1 ∙ sym (append-nil u)) in
     not_wrong (term_fault t []) t (term_sound t []) (subst Wrong (sym (same_answer Ended i u v [] t h (ap stop o ∙ s) (subst (Allowed Ended) (sym o) c) refl whole ∙ ap (moved []) o)) c)

@@ -1,4 +1,5 @@
 pub mod Signs
 pub mod Parser
 pub mod Parse
+pub mod Refusals
 pub mod Meets
