@@ -12,5 +12,10 @@ pub mod Taking
 pub mod LocalRules
 pub mod Refused
 pub mod Viable
+pub mod Shapes
+pub mod ViableAtoms
+pub mod ViableRules
+pub mod ViableNested
+pub mod Answering
 pub mod Turns
 pub mod Places

@@ -1,16 +1,14 @@
 -- What a rule answers when it stops at a token doesn't depend on what stands behind that token.
-use Rattle.std.proofs.Common.{◌≡◌, ◌≢◌, ℕ, zero, suc, ◌+◌, ◌<◌, ◌≤◌, ◌⊎◌, inl, inr, Bool, true, false, cond, Result, Ok, Err, List, [], ◌∷◌, ◌++◌, length, take, drop, refl, sym, ◌∙◌, ap, subst, arith, append_assoc, length-append}
+use Rattle.std.proofs.Common.{◌≡◌, ℕ, suc, ◌⊎◌, inl, inr, Bool, true, false, cond, Result, Ok, Err, List, [], ◌∷◌, ◌++◌, length, take, refl, sym, ◌∙◌, ap, subst, arith, append_assoc, length-append}
 use Rattle.std.proofs.lemmas.List.{append_cancel_right}
 use Rattle.coq_syntax.specs.declared.token.Token.{Token}
 use Rattle.coq_syntax.specs.declared.words.Word.{Word}
-use Rattle.coq_syntax.specs.Faults.{Fault, value_of}
+use Rattle.coq_syntax.specs.Faults.{value_of}
 use Rattle.vernac_parser.specs.declared.sign.Sign.{Sign}
 use Rattle.vernac_parser.specs.declared.sign.Sign.TheVariants as sign
 use Rattle.vernac_parser.specs.Signs.{is_sign, sign_of, sign_at}
-use Rattle.vernac_parser.specs.Parser.{Outcome, Parser, and_then, ◌>>=◌, pure, refuse, refuse_as, choose, unexpected, word_of, taken, number, many, repeated}
-use Rattle.vernac_parser.specs.Parse.{assigns}
+use Rattle.vernac_parser.specs.Parser.{Outcome, Parser, and_then, ◌>>=◌, pure, refuse, refuse_as, choose, unexpected, word_of, taken, number}
 use Rattle.vernac_parser.proofs.Answered.{took, passed}
-use Rattle.vernac_parser.proofs.SignLaws.{is_same}
 
 -- where a parser stopped
 abbrev pub stop : {A : Type 0} → Outcome A → List Token
@@ -78,18 +76,21 @@ ok x r = Ok (x, r)
 
 pub local_ext : {A : Type 0} (p q : Parser A) → ((i : List Token) → p i ≡ q i) → Local p → Local q
 local_ext p q e l = record {
-    cut = λ i. ((l.cut i).0, (l.cut i).1 ∙ ap (λ o. (l.cut i).0 ++ stop o) (e i));
-    same = λ g i i' u v v' h h' s a b. sym (e i') ∙ l.same g i i' u v v' h h' (ap stop (e i) ∙ s) (subst (Allowed g) (sym (e i)) a) b ∙ ap (moved v') (e i) }
+  cut = λ i. ((l.cut i).0, (l.cut i).1 ∙ ap (λ o. (l.cut i).0 ++ stop o) (e i));
+  same = λ g i i' u v v' h h' s a b. sym (e i') ∙ l.same g i i' u v v' h h' (ap stop (e i) ∙ s) (subst (Allowed g) (sym (e i)) a) b ∙ ap (moved v') (e i);
+}
 
 pub local_pure : {A : Type 0} (x : A) → Local (pure x)
 local_pure x = record {
-    cut = λ i. ([], refl);
-    same = λ g i i' u v v' h h' s a b. let none : u ≡ [] = nil_of u v (sym h ∙ s) in ap (ok x) (h' ∙ ap (λ w. w ++ v') none) }
+  cut = λ i. ([], refl);
+  same = λ g i i' u v v' h h' s a b. let none : u ≡ [] = nil_of u v (sym h ∙ s) in ap (ok x) (h' ∙ ap (λ w. w ++ v') none);
+}
 
 pub local_refuse : {A : Type 0} (code : ℕ) → Local (refuse_as {A = A} code)
 local_refuse {A} code = record {
-    cut = λ i. ([], refl);
-    same = λ g i i' u v v' h h' s a b. let none : u ≡ [] = nil_of u v (sym h ∙ s) in ap (refuse_as {A = A} code) (h' ∙ ap (λ w. w ++ v') none) }
+  cut = λ i. ([], refl);
+  same = λ g i i' u v v' h h' s a b. let none : u ≡ [] = nil_of u v (sym h ∙ s) in ap (refuse_as {A = A} code) (h' ∙ ap (λ w. w ++ v') none);
+}
 
 module _ {A B : Type 0} (p : Parser A) (f : A → Parser B) (lp : Local p) (lf : (x : A) → Local (f x)) where
   bind_cut : (i : List Token) (o : Outcome A) → p i ≡ o → (u : List Token) × (i ≡ u ++ stop (and_then o f))

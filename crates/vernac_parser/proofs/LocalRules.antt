@@ -1,21 +1,20 @@
 -- Each rule of the grammar is local.
-use Rattle.std.proofs.Common.{◌≡◌, ◌≢◌, ℕ, zero, suc, ◌+◌, ◌<◌, ◌≤◌, ◌⊎◌, inl, inr, Bool, true, false, cond, Result, Ok, Err, List, [], ◌∷◌, ◌++◌, length, refl, sym, ◌∙◌, ap, subst, arith}
+use Rattle.std.proofs.Common.{◌≡◌, ℕ, zero, suc, ◌+◌, ◌≤◌, Bool, true, false, cond, List, [], ◌∷◌, length, refl, sym, ◌∙◌, ap, subst, arith}
 use Rattle.coq_syntax.specs.declared.token.Token.{Token}
 use Rattle.coq_syntax.specs.declared.words.TokenPlace.{TokenPlace}
 use Rattle.coq_syntax.specs.declared.words.Word.{Word}
-use Rattle.coq_syntax.specs.declared.words.BoundName.{BoundName}
 use Rattle.coq_syntax.specs.declared.words.BoundName.TheVariants.{Named, Unnamed}
-use Rattle.coq_syntax.specs.Trees.{Term, Name, PropSort, SetSort, TypeSort, TypeAt, Numeral, Forall, Fun, Let, Groups, Arguments, NoArgument, GroupList, NoGroup, Binders, Annotation}
+use Rattle.coq_syntax.specs.Trees.{Term, Name, PropSort, SetSort, TypeSort, TypeAt, Numeral, Forall, Fun, Let, Groups, NoArgument, NoGroup}
 use Rattle.coq_syntax.specs.Limits.{too_deep, too_great, no_level}
 use Rattle.vernac_parser.specs.declared.sign.Sign.{Sign}
 use Rattle.vernac_parser.specs.declared.sign.Sign.TheVariants as sign
-use Rattle.vernac_parser.specs.Signs.{is_sign, sign_of, sign_at, begins_atom, begins_open, begins_term}
-use Rattle.vernac_parser.specs.Parser.{Outcome, Parser, and_then, ◌>>=◌, pure, refuse, refuse_as, choose, when, unexpected, place_of, word_of, taken, take, identifier, number, many, repeated}
-use Rattle.vernac_parser.specs.Parse.{Rule, Whole, Right85, Right80, Right75, Checks, is_name, with_name, binder_name, names, Argument, Plain, Given, OneGroup, with_argument, with_group, applied, assigns, type_sort, parenthesized, given, atom, argument_behind, argument, arguments, application, group, groups, binders, annotation, forall_form, fun_form, let_form, equal_behind, t70, operand, t75, and_behind, t80, or_behind, t85, arrow_behind, t99, open_form, term, by_rule, nested}
+use Rattle.vernac_parser.specs.Signs.{is_sign, sign_of, begins_atom, begins_open, begins_term}
+use Rattle.vernac_parser.specs.Parser.{Parser, ◌>>=◌, pure, when, unexpected, place_of, word_of, taken, take, identifier, number, many}
+use Rattle.vernac_parser.specs.Parse.{Rule, Whole, Right85, Right80, Right75, Checks, is_name, with_name, binder_name, names, Argument, Plain, Given, with_argument, with_group, assigns, type_sort, parenthesized, given, atom, argument_behind, argument, arguments, application, group, groups, binders, annotation, forall_form, fun_form, let_form, equal_behind, t70, operand, t75, and_behind, t80, or_behind, t85, arrow_behind, t99, open_form, term, by_rule, nested}
 use Rattle.vernac_parser.proofs.SignLaws.{same_sign, is_same}
-use Rattle.vernac_parser.proofs.Answered.{took, passed, step_free}
-use Rattle.vernac_parser.proofs.Local.{stop, Local, local_ext, local_pure, local_refuse, local_bind, local_choose, local_taken, local_number, Moves}
-use Rattle.vernac_parser.proofs.Taking.{Taken, TakesAt, Limit, Takes, moves, takes_bind, takes_first, takes_second, takes_taken, takes_number, takes_refuse, cut_le, local_many, local_repeated, local_look}
+use Rattle.vernac_parser.proofs.Answered.{took, step_free}
+use Rattle.vernac_parser.proofs.Local.{stop, Local, local_pure, local_refuse, local_bind, local_choose, local_taken, local_number}
+use Rattle.vernac_parser.proofs.Taking.{TakesAt, Limit, Takes, moves, takes_bind, takes_first, takes_second, takes_taken, takes_number, takes_refuse, cut_le, local_many, local_repeated, local_look}
 
 other_is_not : (s : Sign) → is_sign sign.Other s ≡ false → sign.Other ≡ s → ⊥
 other_is_not s e k = let bad : true ≡ false = sym (is_same sign.Other s k) ∙ e in cc
@@ -58,11 +57,11 @@ both false d e = absurd (let bad : false ≡ true = e in cc)
 module _ (c : Checks) (inner : Rule → Parser Term) (li : (rule : Rule) → Local (inner rule)) (named : TakesAt (λ code. code ≡ 11) sign.Identifier (inner Whole)) where
   abbrev type_behind : TokenPlace → Parser Term
   type_behind p = when sign.At (do
-      q ← take sign.At
-      r ← take sign.OpenBrace
-      w ← number c.level no_level
-      s ← take sign.CloseBrace
-      pure (TypeAt p q r w s)) (pure (TypeSort p))
+    q ← take sign.At
+    r ← take sign.OpenBrace
+    w ← number c.level no_level
+    s ← take sign.CloseBrace
+    pure (TypeAt p q r w s)) (pure (TypeSort p))
 
   local_type_behind : (p : TokenPlace) → Local (type_behind p)
   local_type_behind p = local_when place_of sign.At _ _ refl (λ q. local_bind _ _ (local_taken place_of sign.OpenBrace) (λ r. local_bind _ _ (local_number c.level no_level) (λ w. local_bind _ _ (local_taken place_of sign.CloseBrace) (λ s. local_pure (TypeAt p q r w s))))) (local_pure (TypeSort p))
@@ -105,8 +104,8 @@ module _ (c : Checks) (inner : Rule → Parser Term) (li : (rule : Rule) → Loc
   given_far opening (t ∷ s ∷ w) e =
       let parts : (is_sign (sign_of t) sign.Identifier ≡ true) × (is_sign (sign_of s) sign.Assign ≡ true) = both (is_sign (sign_of t) sign.Identifier) (is_sign (sign_of s) sign.Assign) e in
       let same : given c inner opening (t ∷ s ∷ w) ≡ value opening (word_of t) (place_of s) w =
-          step_free (identifier (t ∷ s ∷ w)) (λ x. take sign.Assign >>= (λ q. value opening x q)) (word_of t) (s ∷ w) (value opening (word_of t) (place_of s) w) (took _ _ parts.0)
-          (step_free (take sign.Assign (s ∷ w)) (λ q. value opening (word_of t) q) (place_of s) w (value opening (word_of t) (place_of s) w) (took _ _ parts.1) refl) in
+      step_free (identifier (t ∷ s ∷ w)) (λ x. take sign.Assign >>= (λ q. value opening x q)) (word_of t) (s ∷ w) (value opening (word_of t) (place_of s) w) (took _ _ parts.0)
+      (step_free (take sign.Assign (s ∷ w)) (λ q. value opening (word_of t) q) (place_of s) w (value opening (word_of t) (place_of s) w) (took _ _ parts.1) refl) in
       let size : length (stop (given c inner opening (t ∷ s ∷ w))) ≡ length (stop (value opening (word_of t) (place_of s) w)) = ap (λ o. length (stop o)) same in
       omega (arith, cut_le (value opening (word_of t) (place_of s)) (local_value opening (word_of t) (place_of s)) w)
 
@@ -261,6 +260,7 @@ module _ (c : Checks) (inner : Rule → Parser Term) (li : (rule : Rule) → Loc
 -- the rules one level down
 mutual
   unfolding nested by_rule
+
   pub local_nested : (c : Checks) (n : ℕ) (rule : Rule) → Local (nested c n rule)
   local_nested c zero rule = local_choose begins_term _ _ refl (λ i e s k. omega (arith, k)) (local_refuse too_deep) (local_refuse unexpected)
   local_nested c (suc n) rule = local_by_rule c (nested c n) (local_nested c n) (identifier_nested c n) rule

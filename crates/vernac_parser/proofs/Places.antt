@@ -10,16 +10,13 @@ use Rattle.vernac_parser.specs.declared.cursor.Halt.TheVariants.{Refused, NoMem}
 use Rattle.vernac_parser.specs.Parser.{Outcome}
 use Rattle.vernac_parser.specs.Parse.{whole_term}
 use Rattle.vernac_parser.specs.Reads.{counted}
-use Rattle.vernac_parser.specs.Meets.{IsRead, IsUnexpected, IsLimit, IsRefused, IsAnswer}
+use Rattle.vernac_parser.specs.Meets.{IsRead, IsRefused, IsAnswer}
 use Rattle.coq_syntax.specs.CommandTrees.{Command}
 use Rattle.coq_syntax.specs.Commands.{IsCommandOf, command_fault}
 use Rattle.vernac_parser.specs.ParseCommand.{whole_command}
-use Rattle.vernac_parser.specs.MeetsWhole.{IsRefusedIn, IsWholeAnswer}
+use Rattle.vernac_parser.specs.MeetsWhole.{IsRefusedWhole, IsWholeAnswer, CommandAnswersMeet}
 use Rattle.vernac_parser.specs.Answers.{IsParsed, IsCommandParsed, IsWithin, next_place, stop_of}
-use Rattle.vernac_parser.proofs.Local.{stop}
-
-answers : (i : List Token) → IsAnswer i (whole_term i)
-answers = ?
+use Rattle.vernac_parser.proofs.Answering.{answers_meet}
 
 tail_of : (front rest : List Token) → drop (length (front ++ rest) - length rest) (front ++ rest) ≡ rest
 tail_of [] rest = let e : length rest - length rest ≡ 0 = omega arith in ap (λ n. drop n rest) e
@@ -54,7 +51,7 @@ begun items at i b = b ∙ from_place at items
 pub term_read : (tokens : Tokens) (at : ℕ) (i left : List Token) (t : Term) → Begins tokens.items at i → whole_term i ≡ Ok (t, left)
     → (length left ≤ length tokens.items) × IsRead (drop at tokens.items) t (drop (length tokens.items - length left) tokens.items)
 term_read tokens at i left t b e =
-    let read : IsRead (drop at tokens.items) t left = subst (λ l. IsRead l t left) (begun tokens.items at i b) (subst (IsAnswer i) e (answers i)) in
+    let read : IsRead (drop at tokens.items) t left = subst (λ l. IsRead l t left) (begun tokens.items at i b) (subst (IsAnswer i) e (answers_meet i)) in
     (fits tokens.items read.used left at read.parts, subst (IsRead (drop at tokens.items) t) (sym (inside tokens.items read.used left at read.parts)) read)
 
 cut : (i : List Token) (f : Fault) → IsRefused i f → (used : List Token) × (i ≡ used ++ f.rest)
@@ -74,32 +71,32 @@ halted tokens at i (Err f) e b h c = let same : Refused f.code (length f.rest) �
 pub term_refused : (tokens : Tokens) (at : ℕ) (i : List Token) (e : Halt) → Begins tokens.items at i → (e ≢ NoMem → counted (whole_term i) ≡ Err e)
     → IsWithin e (length tokens.items) × IsParsed tokens at (Err (stop_of tokens e))
 term_refused tokens at i NoMem b h = (tt, tt)
-term_refused tokens at i (Refused code left) b h = halted tokens at i (whole_term i) (Refused code left) (begun tokens.items at i b) (answers i) (h (λ e. cc))
+term_refused tokens at i (Refused code left) b h = halted tokens at i (whole_term i) (Refused code left) (begun tokens.items at i b) (answers_meet i) (h (λ e. cc))
 
 -- ---- commands
 
-command_answers : (i : List Token) → IsWholeAnswer Command IsCommandOf command_fault i (whole_command i)
+command_answers : CommandAnswersMeet
 command_answers = ?
 
 pub command_read : (items i left : List Token) (c : Command) → i ≡ items → whole_command i ≡ Ok (c, left) → IsCommandOf items c × (command_fault c ≡ None)
 command_read items i left c same e =
-    let h : IsWholeAnswer Command IsCommandOf command_fault i (Ok (c, left)) = subst (IsWholeAnswer Command IsCommandOf command_fault i) e (command_answers i) in (subst (λ l. IsCommandOf l c) same h.1, h.2)
+    let h : IsWholeAnswer IsCommandOf command_fault i (Ok (c, left)) = subst (IsWholeAnswer IsCommandOf command_fault i) e (command_answers i) in (subst (λ l. IsCommandOf l c) same h.1, h.2)
 
-cut_command : (i : List Token) (f : Fault) → IsRefusedIn Command IsCommandOf command_fault i f → (used : List Token) × (i ≡ used ++ f.rest)
+cut_command : (i : List Token) (f : Fault) → IsRefusedWhole IsCommandOf command_fault i f → (used : List Token) × (i ≡ used ++ f.rest)
 cut_command i f (inl h) = (h.1.used, h.1.parts)
 cut_command i f (inr h) = (h.used, h.parts ∙ ap (λ l. h.used ++ l) (sym h.place))
 
-of_command_refusal : (tokens : Tokens) (f : Fault) (e : Halt) → IsRefusedIn Command IsCommandOf command_fault tokens.items f → Refused f.code (length f.rest) ≡ e → IsWithin e (length tokens.items) × IsCommandParsed tokens (Err (stop_of tokens e))
+of_command_refusal : (tokens : Tokens) (f : Fault) (e : Halt) → IsRefusedWhole IsCommandOf command_fault tokens.items f → Refused f.code (length f.rest) ≡ e → IsWithin e (length tokens.items) × IsCommandParsed tokens (Err (stop_of tokens e))
 of_command_refusal tokens f e h same =
     let parts = cut_command tokens.items f h in
     subst (λ e. IsWithin e (length tokens.items) × IsCommandParsed tokens (Err (stop_of tokens e))) same
       (fits tokens.items parts.0 f.rest 0 parts.1, (f, h, (refl, ap (next_place tokens.period) (inside tokens.items parts.0 f.rest 0 parts.1))))
 
-command_halted : (tokens : Tokens) (o : Outcome Command) (e : Halt) → IsWholeAnswer Command IsCommandOf command_fault tokens.items o → counted o ≡ Err e → IsWithin e (length tokens.items) × IsCommandParsed tokens (Err (stop_of tokens e))
+command_halted : (tokens : Tokens) (o : Outcome Command) (e : Halt) → IsWholeAnswer IsCommandOf command_fault tokens.items o → counted o ≡ Err e → IsWithin e (length tokens.items) × IsCommandParsed tokens (Err (stop_of tokens e))
 command_halted tokens (Ok p) e h c = absurd (cc)
 command_halted tokens (Err f) e h c = let same : Refused f.code (length f.rest) ≡ e = cc in of_command_refusal tokens f e h same
 
 pub command_refused : (tokens : Tokens) (i : List Token) (e : Halt) → i ≡ tokens.items → (e ≢ NoMem → counted (whole_command i) ≡ Err e) → IsWithin e (length tokens.items) × IsCommandParsed tokens (Err (stop_of tokens e))
 command_refused tokens i NoMem same h = (tt, tt)
 command_refused tokens i (Refused code left) same h =
-    command_halted tokens (whole_command i) (Refused code left) (subst (λ l. IsWholeAnswer Command IsCommandOf command_fault l (whole_command i)) same (command_answers i)) (h (λ e. cc))
+    command_halted tokens (whole_command i) (Refused code left) (subst (λ l. IsWholeAnswer IsCommandOf command_fault l (whole_command i)) same (command_answers i)) (h (λ e. cc))

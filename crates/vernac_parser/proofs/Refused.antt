@@ -1,18 +1,17 @@
 -- Behind what was read, and at an unexpected token, no tree goes on; and a limit is passed in each tree.
-use Rattle.std.proofs.Common.{◌≡◌, ◌≢◌, ℕ, zero, suc, ◌+◌, ◌==◌, ◌<◌, ◌≤◌, ◌⊎◌, inl, inr, Bool, true, false, cond, Option, None, Some, Result, Ok, Err, List, [], ◌∷◌, ◌++◌, length, take, refl, sym, ◌∙◌, ap, subst, arith, append_assoc, append-nil}
+use Rattle.std.proofs.Common.{◌≡◌, ℕ, zero, suc, ◌==◌, Bool, true, false, cond, Option, None, Some, Ok, Err, List, [], ◌∷◌, ◌++◌, take, refl, sym, ◌∙◌, ap, subst, arith, append_assoc, append-nil}
 use Rattle.coq_syntax.specs.declared.token.Token.{Token}
 use Rattle.coq_syntax.specs.Trees.{Term, Forall, Fun, Let, Arrow, Or, And, Not, Equal, Apply, Name, PropSort, SetSort, TypeSort, TypeAt, Numeral, Parenthesized, Binders, Names, Groups, GroupList, NoGroup, Group, Annotation, Untyped, Typed, Arguments, NoArgument, Positional, Given}
 use Rattle.coq_syntax.specs.Spelled.{spells}
-use Rattle.coq_syntax.specs.Grammar.{level, IsTerm, IsTermOf}
-use Rattle.coq_syntax.specs.Limits.{open_level, most_nested, greatest_numeral, greatest_level, too_deep, too_great, no_level}
+use Rattle.coq_syntax.specs.Grammar.{level, IsTermOf}
+use Rattle.coq_syntax.specs.Limits.{open_level, most_nested, too_deep}
 use Rattle.coq_syntax.specs.Faults.{Fault, first, nested, value_of, fault, binders_fault, groups_fault, annotation_fault, arguments_fault, term_fault}
-use Rattle.vernac_parser.specs.Signs.{sign_at}
 use Rattle.vernac_parser.specs.Parser.{Outcome, unexpected}
-use Rattle.vernac_parser.specs.Parse.{Checks, standard, Whole, whole_term}
-use Rattle.vernac_parser.specs.Meets.{BeginTerm, IsLongest}
+use Rattle.vernac_parser.specs.Parse.{standard, Whole, whole_term}
+use Rattle.vernac_parser.specs.Refusals.{IsLongest, NoTree}
 use Rattle.vernac_parser.proofs.Answered.{answered}
 use Rattle.vernac_parser.proofs.Unique.{complete_term}
-use Rattle.vernac_parser.proofs.Local.{stop, moved, Grade, Two, One, Ended, Agrees, Fits, Allowed, Local}
+use Rattle.vernac_parser.proofs.Local.{stop, moved, Grade, Two, One, Ended, Agrees, Allowed}
 use Rattle.vernac_parser.proofs.LocalRules.{local_nested}
 
 -- a tree's fault is none of an unexpected token
@@ -72,7 +71,7 @@ pub term_sound : (t : Term) (rest : List Token) → Sound (term_fault t rest)
 term_sound t rest = sound_nested most_nested (λ n. fault t n rest) (spells t rest) (λ m. sound t m rest)
 
 -- what a tree's answer is not: an Ok with tokens left, or an unexpected token
-abbrev Wrong : Outcome Term → Type 0
+abbrev pub Wrong : Outcome Term → Type 0
 Wrong (Ok p) = p.1 ≡ [] → ⊥
 Wrong (Err f) = f.code ≡ unexpected
 
@@ -90,7 +89,7 @@ same_answer g i u v v' t h s a k tree =
     sym (complete_term t [] tree.0 (omega arith)) ∙ (local_nested standard most_nested Whole).same g i (spells t []) u v v' h tree.1 s a k
 
 -- an answer that an unexpected token or an Ok is
-abbrev Plain : Outcome Term → Type 0
+abbrev pub Plain : Outcome Term → Type 0
 Plain (Ok p) = Unit {0}
 Plain (Err f) = f.code ≡ unexpected
 
@@ -102,13 +101,13 @@ plain_one : (o : Outcome Term) → Plain o → Allowed One o
 plain_one (Ok p) h = tt
 plain_one (Err f) h = λ e. omega (arith, e, h)
 
-pub is_longest : (i u v : List Token) → i ≡ u ++ v → stop (whole_term i) ≡ v → Plain (whole_term i) → IsLongest u v
+pub is_longest : (i u v : List Token) → i ≡ u ++ v → stop (whole_term i) ≡ v → Plain (whole_term i) → IsLongest IsTermOf u v
 is_longest i u [] h s p = tt
 is_longest i u (next ∷ w) h s p = λ begins.
     let tree : IsTermOf (u ++ next ∷ begins.0) begins.1 = (begins.2.0, begins.2.1 ∙ append_assoc u (next ∷ []) begins.0) in
     not_wrong (term_fault begins.1 []) begins.1 (term_sound begins.1 []) (subst Wrong (sym (same_answer One i u (next ∷ w) (next ∷ begins.0) begins.1 h s (plain_one (whole_term i) p) refl tree)) (wrong_at (whole_term i) next begins.0 p))
 
-pub no_tree : (i u v : List Token) (f : Fault) → i ≡ u ++ v → whole_term i ≡ Err f → f.rest ≡ v → f.code ≡ unexpected → (t : Term) → IsTermOf u t → ⊥
+pub no_tree : (i u v : List Token) (f : Fault) → i ≡ u ++ v → whole_term i ≡ Err f → f.rest ≡ v → f.code ≡ unexpected → NoTree IsTermOf u
 no_tree i u v f h o s c t tree =
     let whole : IsTermOf (u ++ []) t = (tree.0, tree.1 ∙ sym (append-nil u)) in
     not_wrong (term_fault t []) t (term_sound t []) (subst Wrong (sym (same_answer Ended i u v [] t h (ap stop o ∙ s) (subst (Allowed Ended) (sym o) c) refl whole ∙ ap (moved []) o)) c)

@@ -1,8 +1,8 @@
 -- Which tokens a rule takes, so that lists end, and that lists and the look behind a `(` are local.
-use Rattle.std.proofs.Common.{◌≡◌, ◌≢◌, ℕ, zero, suc, ◌+◌, ◌<◌, ◌≤◌, ◌⊎◌, inl, inr, Bool, true, false, cond, Result, Ok, Err, List, [], ◌∷◌, ◌++◌, length, take, drop, refl, sym, ◌∙◌, ap, subst, arith, append_assoc, length-append}
+use Rattle.std.proofs.Common.{◌≡◌, ℕ, zero, suc, ◌+◌, ◌<◌, ◌≤◌, ◌⊎◌, inl, inr, Bool, true, false, cond, Ok, Err, List, [], ◌∷◌, ◌++◌, length, take, refl, sym, ◌∙◌, ap, subst, arith, length-append}
 use Rattle.coq_syntax.specs.declared.token.Token.{Token}
 use Rattle.coq_syntax.specs.declared.words.Word.{Word}
-use Rattle.coq_syntax.specs.Faults.{Fault, value_of}
+use Rattle.coq_syntax.specs.Faults.{value_of}
 use Rattle.vernac_parser.specs.declared.sign.Sign.{Sign}
 use Rattle.vernac_parser.specs.declared.sign.Sign.TheVariants as sign
 use Rattle.vernac_parser.specs.Signs.{is_sign, sign_of, sign_at}
@@ -10,7 +10,7 @@ use Rattle.vernac_parser.specs.Parser.{Outcome, Parser, and_then, ◌>>=◌, pur
 use Rattle.vernac_parser.specs.Parse.{assigns}
 use Rattle.vernac_parser.proofs.Answered.{took, passed}
 use Rattle.vernac_parser.proofs.SignLaws.{same_sign, is_same}
-use Rattle.vernac_parser.proofs.Local.{stop, moved, signs_alike, Grade, Two, One, Ended, Agrees, Fits, Allowed, Local, local_ext, local_pure, local_refuse, local_bind, Limited, Moves, local_choose}
+use Rattle.vernac_parser.proofs.Local.{stop, moved, signs_alike, Grade, Two, One, Ended, Agrees, Allowed, Local, local_pure, local_refuse, local_bind, Limited, Moves, local_choose}
 
 -- something is taken, or there is a refusal by a number of these
 abbrev pub Taken : {A : Type 0} → (ℕ → Type 0) → Outcome A → List Token → Type 0

@@ -175,7 +175,7 @@ unfolding nested
 rule_inside c zero rule t rest ih = took _ _ (ap begins_term (head_of t rest) ∙ term_begins t)
 rule_inside c (suc n) rule t rest ih = ih n
 
-not_the_open_level : (k : ℕ) → k ≤ 99 → (k == open_level) ≡ false
+pub not_the_open_level : (k : ℕ) → k ≤ 99 → (k == open_level) ≡ false
 not_the_open_level k l = grind arith
 
 -- a right operand: an open form counts nothing

@@ -14,7 +14,7 @@ use Rattle.vernac_parser.specs.declared.cursor.Halt.{Halt}
 use Rattle.vernac_parser.specs.declared.cursor.Halt.TheVariants as halt
 use Rattle.vernac_parser.specs.declared.parsing.Parsed.{Parsed}
 use Rattle.vernac_parser.specs.Meets.{IsRead, IsRefused}
-use Rattle.vernac_parser.specs.MeetsWhole.{IsRefusedIn}
+use Rattle.vernac_parser.specs.MeetsWhole.{IsRefusedWhole}
 
 -- the place of the next of these tokens, or of the period behind them, as far as numbers of 32 bits go
 abbrev pub next_place : ℕ → List Token → Place
@@ -34,7 +34,7 @@ IsParsed tokens at (Err NoMem) = Unit {0}
 -- the list is a command, or none
 abbrev pub IsCommandParsed : Tokens → Result Command Stop → Type 0
 IsCommandParsed tokens (Ok c) = IsCommandOf tokens.items c × (command_fault c ≡ None)
-IsCommandParsed tokens (Err (Refused r)) = (f : Fault) × IsRefusedIn Command IsCommandOf command_fault tokens.items f × IsRefusal tokens r f
+IsCommandParsed tokens (Err (Refused r)) = (f : Fault) × IsRefusedWhole IsCommandOf command_fault tokens.items f × IsRefusal tokens r f
 IsCommandParsed tokens (Err (Out limit)) = ⊥
 IsCommandParsed tokens (Err NoMem) = Unit {0}
 

@@ -14,5 +14,5 @@ mod parsing;
 mod rule;
 mod sign;
 
-pub use laws::one_tree;
+pub use laws::{law_of_answers, one_tree};
 pub use parsing::{Parsed, parse_command, parse_term};
