@@ -13,6 +13,8 @@ mod operators;
 mod parsing;
 mod rule;
 mod sign;
+#[cfg(test)]
+mod tests;
 
 pub use laws::{law_of_answers, one_tree};
 pub use parsing::{Parsed, parse_command, parse_term};
