@@ -80,11 +80,11 @@ mutual
   standard_binders (Names ns p t) n rest = same_nested n _ _ _ (λ m. standard_fault t m rest)
   standard_binders (Groups gs) n rest = standard_groups gs n rest
 
-  standard_groups : (gs : GroupList) (n : ℕ) (rest : List Token) → groups_fault_by standard gs n rest ≡ groups_fault gs n rest
+  pub standard_groups : (gs : GroupList) (n : ℕ) (rest : List Token) → groups_fault_by standard gs n rest ≡ groups_fault gs n rest
   standard_groups NoGroup n rest = refl
   standard_groups (Group p ns q t r after) n rest = ap₂ first (same_nested n _ _ _ (λ m. standard_fault t m _)) (standard_groups after n rest)
 
-  standard_annotation : (a : Annotation) (n : ℕ) (rest : List Token) → annotation_fault_by standard a n rest ≡ annotation_fault a n rest
+  pub standard_annotation : (a : Annotation) (n : ℕ) (rest : List Token) → annotation_fault_by standard a n rest ≡ annotation_fault a n rest
   standard_annotation Untyped n rest = refl
   standard_annotation (Typed p t) n rest = same_nested n _ _ _ (λ m. standard_fault t m rest)
 

@@ -17,5 +17,7 @@ pub mod ViableAtoms
 pub mod ViableRules
 pub mod ViableNested
 pub mod Answering
+pub mod CommandFaults
+pub mod CommandComplete
 pub mod Turns
 pub mod Places

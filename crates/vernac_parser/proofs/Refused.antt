@@ -19,7 +19,7 @@ abbrev pub Sound : Option Fault → Type 0
 Sound None = Unit {0}
 Sound (Some f) = f.code ≡ unexpected → ⊥
 
-sound_first : (f g : Option Fault) → Sound f → Sound g → Sound (first f g)
+pub sound_first : (f g : Option Fault) → Sound f → Sound g → Sound (first f g)
 sound_first None g p q = q
 sound_first (Some f) g p q = p
 
@@ -54,11 +54,11 @@ mutual
   sound_binders (Names ns p t) n rest = sound_nested n _ _ (λ m. sound t m rest)
   sound_binders (Groups gs) n rest = sound_groups gs n rest
 
-  sound_groups : (gs : GroupList) (n : ℕ) (rest : List Token) → Sound (groups_fault gs n rest)
+  pub sound_groups : (gs : GroupList) (n : ℕ) (rest : List Token) → Sound (groups_fault gs n rest)
   sound_groups NoGroup n rest = tt
   sound_groups (Group p ns q t r after) n rest = sound_first _ _ (sound_nested n _ _ (λ m. sound t m _)) (sound_groups after n rest)
 
-  sound_annotation : (a : Annotation) (n : ℕ) (rest : List Token) → Sound (annotation_fault a n rest)
+  pub sound_annotation : (a : Annotation) (n : ℕ) (rest : List Token) → Sound (annotation_fault a n rest)
   sound_annotation Untyped n rest = tt
   sound_annotation (Typed p t) n rest = sound_nested n _ _ (λ m. sound t m rest)
 
@@ -79,7 +79,7 @@ ok_list : Outcome Term → List Token
 ok_list (Ok p) = p.1
 ok_list (Err f) = []
 
-not_wrong : (f : Option Fault) (t : Term) → Sound f → Wrong (answered f t []) → ⊥
+pub not_wrong : (f : Option Fault) (t : Term) → Sound f → Wrong (answered f t []) → ⊥
 not_wrong None t s w = w refl
 not_wrong (Some f) t s w = s w
 
@@ -112,14 +112,14 @@ no_tree i u v f h o s c t tree =
     let whole : IsTermOf (u ++ []) t = (tree.0, tree.1 ∙ sym (append-nil u)) in
     not_wrong (term_fault t []) t (term_sound t []) (subst Wrong (sym (same_answer Ended i u v [] t h (ap stop o ∙ s) (subst (Allowed Ended) (sym o) c) refl whole ∙ ap (moved []) o)) c)
 
-the_fault : (f : Option Fault) (t : Term) (g : Fault) → answered f t [] ≡ Err g → f ≡ Some g
+pub the_fault : (f : Option Fault) (t : Term) (g : Fault) → answered f t [] ≡ Err g → f ≡ Some g
 the_fault None t g e = cc
 the_fault (Some f) t g e = cc
 
-equal_of : (a b : ℕ) → (a == b) ≡ true → a ≡ b
+pub equal_of : (a b : ℕ) → (a == b) ≡ true → a ≡ b
 equal_of a b e = grind arith
 
-unequal_of : (a b : ℕ) → (a == b) ≡ false → a ≡ b → ⊥
+pub unequal_of : (a b : ℕ) → (a == b) ≡ false → a ≡ b → ⊥
 unequal_of a b e = grind arith
 
 -- a limit is passed in each tree that begins so

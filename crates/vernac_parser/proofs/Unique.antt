@@ -26,13 +26,13 @@ pub complete_term : (t : Term) (rest : List Token) → IsTerm t → 99 < reach (
 complete_term t rest h r = complete_whole standard most_nested t rest h r ∙ ap (λ f. answered f t rest) (same_nested most_nested (λ m. fault_by standard t m rest) (λ m. fault t m rest) (spells t rest) (λ m. standard_fault t m rest))
 
 -- no number is refused
-loose : Checks
+pub loose : Checks
 loose = record { numeral = λ _. false; level = λ _. false }
 
-none_first : {f g : Option Fault} → f ≡ None → g ≡ None → first f g ≡ None
+pub none_first : {f g : Option Fault} → f ≡ None → g ≡ None → first f g ≡ None
 none_first {f} {g} p q = ap (λ x. first x g) p ∙ q
 
-none_inside : (n : ℕ) (t : Term) (rest : List Token) → size_of t < n → ((m : ℕ) → size_of t ≤ m → fault_by loose t m rest ≡ None) → inside loose n t rest ≡ None
+pub none_inside : (n : ℕ) (t : Term) (rest : List Token) → size_of t < n → ((m : ℕ) → size_of t ≤ m → fault_by loose t m rest ≡ None) → inside loose n t rest ≡ None
 none_inside zero t rest l h = absurd (omega arith)
 none_inside (suc n) t rest l h = h n (omega arith)
 
@@ -44,7 +44,7 @@ none_if false f g p q = q
 mutual
   unfolding loose
 
-  shallow : (t : Term) (n : ℕ) (rest : List Token) → size_of t ≤ n → fault_by loose t n rest ≡ None
+  pub shallow : (t : Term) (n : ℕ) (rest : List Token) → size_of t ≤ n → fault_by loose t n rest ≡ None
   shallow (Forall p bs q b) n rest l = none_first (shallow_binders bs n _ (omega arith)) (none_inside n b rest (omega arith) (λ m k. shallow b m rest k))
   shallow (Fun p bs q b) n rest l = none_first (shallow_binders bs n _ (omega arith)) (none_inside n b rest (omega arith) (λ m k. shallow b m rest k))
   shallow (Let p x a q v s b) n rest l = none_first (shallow_annotation a n _ (omega arith)) (none_first (none_inside n v _ (omega arith) (λ m k. shallow v m _ k)) (none_inside n b rest (omega arith) (λ m k. shallow b m rest k)))
@@ -66,11 +66,11 @@ mutual
   shallow_binders (Names ns p t) n rest l = none_inside n t rest (omega arith) (λ m k. shallow t m rest k)
   shallow_binders (Groups gs) n rest l = shallow_groups gs n rest (omega arith)
 
-  shallow_groups : (gs : GroupList) (n : ℕ) (rest : List Token) → size_of_groups gs ≤ n → groups_fault_by loose gs n rest ≡ None
+  pub shallow_groups : (gs : GroupList) (n : ℕ) (rest : List Token) → size_of_groups gs ≤ n → groups_fault_by loose gs n rest ≡ None
   shallow_groups NoGroup n rest l = refl
   shallow_groups (Group p ns q t r after) n rest l = none_first (none_inside n t _ (omega arith) (λ m k. shallow t m _ k)) (shallow_groups after n rest (omega arith))
 
-  shallow_annotation : (a : Annotation) (n : ℕ) (rest : List Token) → size_of_annotation a ≤ n → annotation_fault_by loose a n rest ≡ None
+  pub shallow_annotation : (a : Annotation) (n : ℕ) (rest : List Token) → size_of_annotation a ≤ n → annotation_fault_by loose a n rest ≡ None
   shallow_annotation Untyped n rest l = refl
   shallow_annotation (Typed p t) n rest l = none_inside n t rest (omega arith) (λ m k. shallow t m rest k)
 
@@ -82,7 +82,7 @@ mutual
 read_alone : (t : Term) (n : ℕ) → IsTerm t → size_of t < n → parse.nested loose n Whole (spells t []) ≡ Ok (t, [])
 read_alone t n h l = complete_whole loose n t [] h (omega arith) ∙ ap (λ f. answered f t []) (none_inside n t [] l (λ m k. shallow t m [] k))
 
-tree_of : Term → Outcome Term → Term
+pub tree_of : Term → Outcome Term → Term
 tree_of t (Ok p) = p.0
 tree_of t (Err f) = t
 

@@ -16,5 +16,5 @@ mod sign;
 #[cfg(test)]
 mod tests;
 
-pub use laws::{law_of_answers, one_tree};
+pub use laws::{law_of_answers, law_of_commands, one_command, one_tree};
 pub use parsing::{Parsed, parse_command, parse_term};
