@@ -19,5 +19,6 @@ pub mod ViableNested
 pub mod Answering
 pub mod CommandFaults
 pub mod CommandComplete
+pub mod CommandLocal
 pub mod Turns
 pub mod Places
