@@ -20,5 +20,6 @@ pub mod Answering
 pub mod CommandFaults
 pub mod CommandComplete
 pub mod CommandLocal
+pub mod CommandRefused
 pub mod Turns
 pub mod Places
