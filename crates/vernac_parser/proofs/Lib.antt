@@ -21,5 +21,7 @@ pub mod CommandFaults
 pub mod CommandComplete
 pub mod CommandLocal
 pub mod CommandRefused
+pub mod ViableCommands
+pub mod CommandAnswering
 pub mod Turns
 pub mod Places
