@@ -62,7 +62,7 @@ of_refusal : (tokens : Tokens) (at : ℕ) (f : Fault) (e : Halt) → IsRefused (
 of_refusal tokens at f e h same =
     let parts = cut (drop at tokens.items) f h in
     subst (λ e. IsWithin e (length tokens.items) × IsParsed tokens at (Err (stop_of tokens e))) same
-      (fits tokens.items parts.0 f.rest at parts.1, (f, h, (refl, ap (next_place tokens.period) (inside tokens.items parts.0 f.rest at parts.1))))
+    (fits tokens.items parts.0 f.rest at parts.1, (f, h, (refl, ap (next_place tokens.period) (inside tokens.items parts.0 f.rest at parts.1))))
 
 halted : (tokens : Tokens) (at : ℕ) (i : List Token) (o : Outcome Term) (e : Halt) → i ≡ drop at tokens.items → IsAnswer i o → counted o ≡ Err e → IsWithin e (length tokens.items) × IsParsed tokens at (Err (stop_of tokens e))
 halted tokens at i (Ok p) e b h c = absurd (cc)
@@ -90,7 +90,7 @@ of_command_refusal : (tokens : Tokens) (f : Fault) (e : Halt) → IsRefusedWhole
 of_command_refusal tokens f e h same =
     let parts = cut_command tokens.items f h in
     subst (λ e. IsWithin e (length tokens.items) × IsCommandParsed tokens (Err (stop_of tokens e))) same
-      (fits tokens.items parts.0 f.rest 0 parts.1, (f, h, (refl, ap (next_place tokens.period) (inside tokens.items parts.0 f.rest 0 parts.1))))
+    (fits tokens.items parts.0 f.rest 0 parts.1, (f, h, (refl, ap (next_place tokens.period) (inside tokens.items parts.0 f.rest 0 parts.1))))
 
 command_halted : (tokens : Tokens) (o : Outcome Command) (e : Halt) → IsWholeAnswer IsCommandOf command_fault tokens.items o → counted o ≡ Err e → IsWithin e (length tokens.items) × IsCommandParsed tokens (Err (stop_of tokens e))
 command_halted tokens (Ok p) e h c = absurd (cc)

@@ -67,9 +67,9 @@ module _ {A B C : Type 0} (view : C → A) (test : Sign → Bool) (item : Parser
   more takes found c i rest begins is =
       let s : length rest < length i = smaller takes c i rest begins is in
       let turned : repeated test item front none i ≡ and_then (repeated test item front none rest) (λ xs. pure (front (view c) xs)) =
-        chosen test (item >>= others (length i)) (pure none) i begins
-        ∙ ap (λ o. and_then o (others (length i))) is
-        ∙ ap (λ o. and_then o (λ xs. pure (front (view c) xs))) (enough takes (length i) (suc (length rest)) rest (omega arith) (omega arith)) in
+      chosen test (item >>= others (length i)) (pure none) i begins
+      ∙ ap (λ o. and_then o (others (length i))) is
+      ∙ ap (λ o. and_then o (λ xs. pure (front (view c) xs))) (enough takes (length i) (suc (length rest)) rest (omega arith) (omega arith)) in
       behind-append (λ d. front (view d)) found c (repeated test item front none rest)
       ∙ ap (λ o. behind (λ d. front (view d)) found o) (sym turned)
 

@@ -11,7 +11,7 @@ at_least most n (d ∷ ds) h = at_least most (n * 10 + (d - 48)) ds (omega arith
 capped : (most n : ℕ) (digits : List ℕ) → min (digits_value (min n most) digits) most ≡ min (digits_value n digits) most
 capped most n digits =
     elim (cases_lt n most) [
-        inl h ↦ let e : min n most ≡ n = omega arith in ap (λ k. min (digits_value k digits) most) e
+      | inl h ↦ let e : min n most ≡ n = omega arith in ap (λ k. min (digits_value k digits) most) e
       | inr h ↦
           let e : min n most ≡ most = omega arith in
           let above : most ≤ digits_value n digits = at_least most n digits h in

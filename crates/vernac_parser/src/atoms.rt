@@ -107,7 +107,11 @@ impl<F: Fn(Global, &mut Tokens<'_>, usize, Rule) -> Result<SurfaceTerm, Halt>> G
     }
 
     #[tactic(auto, unfolding(crate::specs::Parse::argument_behind))]
-    fn argument_behind(&self, tokens: &mut Tokens<'_>, opening: TokenPlace) -> Result<Argument, Halt>
+    fn argument_behind(
+        &self,
+        tokens: &mut Tokens<'_>,
+        opening: TokenPlace,
+    ) -> Result<Argument, Halt>
         requires { Nests self.now.limit (F.pre self.now.nested) (F.post self.now.nested) }
         ensures { ReadsAs argument_of (spec.argument_behind spec.standard (within self.now.limit) opening tokens.old) result tokens.new }
     {

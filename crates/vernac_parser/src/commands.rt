@@ -197,7 +197,9 @@ impl<F: Fn(Global, &mut Tokens<'_>, usize, Rule) -> Result<SurfaceTerm, Halt>> G
             Some(CommandWord::Proof) => Ok(Command::new(CommandForm::Proof(keyword(tokens)?))),
             Some(CommandWord::Qed) => Ok(Command::new(CommandForm::Qed(keyword(tokens)?))),
             Some(CommandWord::Defined) => Ok(Command::new(CommandForm::Defined(keyword(tokens)?))),
-            Some(CommandWord::Admitted) => Ok(Command::new(CommandForm::Admitted(keyword(tokens)?))),
+            Some(CommandWord::Admitted) => Ok(Command::new(CommandForm::Admitted(keyword(
+                tokens,
+            )?))),
             Some(CommandWord::Abort) => Ok(Command::new(CommandForm::Aborted(keyword(tokens)?))),
         }
     }

@@ -136,7 +136,6 @@ impl<'a> Tokens<'a> {
         self.refuse_as(UNEXPECTED)
     }
 
-    
     pub fn take(&mut self, sign: Sign) -> Result<TokenPlace, Halt>
         ensures { Reads (spec.take sign self.old) result self.new }
     {

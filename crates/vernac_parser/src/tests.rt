@@ -41,7 +41,11 @@ fn binder_list(alloc: Global, binders: &Binders, depth: usize) -> Result<String,
         return Ok(String::new(alloc));
     }
     match binders {
-        Binders::Names { names: list, ty, .. } => {
+        Binders::Names {
+            names: list,
+            ty,
+            ..
+        } => {
             let names = names(alloc, list.as_slice())?;
             let ty = term(alloc, ty, depth - 1)?;
             Ok(format!(in alloc; "{names}: {ty}")?)
@@ -349,11 +353,20 @@ const TERMS: [(&str, &str); 24] = [
     ("~ ~ f x /\\ b", "((~ (~ (f x))) /\\ b) 6"),
     ("f x = g y", "((f x) = (g y)) 5"),
     ("a = b = c", "(a = b) 3"),
-    ("a \\/ forall x : A, b -> c", "(a \\/ (forall x : A, (b -> c))) 10"),
-    ("a /\\ fun x : A => b \\/ c", "(a /\\ (fun x : A=> (b \\/ c))) 10"),
+    (
+        "a \\/ forall x : A, b -> c",
+        "(a \\/ (forall x : A, (b -> c))) 10",
+    ),
+    (
+        "a /\\ fun x : A => b \\/ c",
+        "(a /\\ (fun x : A=> (b \\/ c))) 10",
+    ),
     ("~ let x := a in b = c", "(~ (let x := a in (b = c))) 9"),
     ("let _ : A := a in b", "(let _ : A := a in b) 8"),
-    ("forall (x y : A) (_ : B), C", "(forall (x y : A) (_ : B) , C) 14"),
+    (
+        "forall (x y : A) (_ : B), C",
+        "(forall (x y : A) (_ : B) , C) 14",
+    ),
     ("forall x _ : A, B", "(forall x _ : A, B) 7"),
     ("f (x := a) (b c) 3", "(f [x := a] [(b c)] 3) 11"),
     ("f (x a) (y)", "(f [(x a)] [y]) 8"),
@@ -391,14 +404,20 @@ const COMMANDS: [(&str, &str); 43] = [
     ("Definition a (x : A", "10 at 19 to 20"),
     ("Definition a x := b", "10 at 13 to 14"),
     ("Theorem a : b", "Theorem a : b"),
-    ("Lemma a (x : A) (y : B) : c -> d", "Lemma a (x : A) (y : B) : (c -> d)"),
+    (
+        "Lemma a (x : A) (y : B) : c -> d",
+        "Lemma a (x : A) (y : B) : (c -> d)",
+    ),
     ("Theorem a (x : A) := b", "10 at 18 to 20"),
     ("Inductive a : Set :=", "Inductive a : Set := "),
     (
         "Inductive a (x : A) : B -> Set := | c (y : C) : a y | d",
         "Inductive a (x : A) : (B -> Set) := | c (y : C) : (a y) | d ",
     ),
-    ("Inductive a : Set := c | d : e", "Inductive a : Set := c | d : e "),
+    (
+        "Inductive a : Set := c | d : e",
+        "Inductive a : Set := c | d : e ",
+    ),
     ("Inductive a : Set := c d", "10 at 23 to 24"),
     ("Inductive a : Set := |", "10 at 22 to 23"),
     ("Inductive a : Set", "10 at 17 to 18"),

@@ -16,8 +16,8 @@ pub returns-in_err-binder_name-2 : goal.returns-in_err-binder_name-2
 returns-in_err-binder_name-2 c =
     let p = err_from_is_err_and c.from_residual-in_err-binder_name-2.result c.from_residual-in_err-binder_name-2.ensures.1 in
     rw (p.1, p.2) (λ apart.
-      ap counted (sym c.loop-alloc.invariant)
-      ∙ failed (λ n. n) is_name binder_name with_name [] c.loop-alloc.names.items c.loop-alloc.tokens _ (ap is_name (sym c.sign.ensures) ∙ sym c.loop-alloc-test.ensures) (c.in_err-binder_name-2.ensures apart))
+    ap counted (sym c.loop-alloc.invariant)
+    ∙ failed (λ n. n) is_name binder_name with_name [] c.loop-alloc.names.items c.loop-alloc.tokens _ (ap is_name (sym c.sign.ensures) ∙ sym c.loop-alloc-test.ensures) (c.in_err-binder_name-2.ensures apart))
 
 pub loop-alloc-smaller : goal.loop-alloc-smaller
 loop-alloc-smaller c = smaller (λ n. n) is_name binder_name with_name [] takes_name _ c.loop-alloc.tokens _ (ap is_name (sym c.sign.ensures) ∙ sym c.loop-alloc-test.ensures) c.in_ok-binder_name-2.ensures

@@ -26,8 +26,8 @@ pub returns-in_err-argument : goal.returns-in_err-argument
 returns-in_err-argument g c =
     let p = err_from_is_err_and c.from_residual.result c.from_residual.ensures.1 in
     rw (p.1, p.2) (λ apart.
-      ap counted (sym c.loop-arguments.invariant)
-      ∙ failed argument_of begins_atom (argument standard (within c.args.self.now.limit)) with_argument NoArgument c.loop-arguments.arguments.items c.loop-arguments.tokens _ (ap begins_atom (sym c.sign.ensures) ∙ sym c.loop-arguments-test.ensures) (c.in_err-argument.ensures apart))
+    ap counted (sym c.loop-arguments.invariant)
+    ∙ failed argument_of begins_atom (argument standard (within c.args.self.now.limit)) with_argument NoArgument c.loop-arguments.arguments.items c.loop-arguments.tokens _ (ap begins_atom (sym c.sign.ensures) ∙ sym c.loop-arguments-test.ensures) (c.in_err-argument.ensures apart))
 
 pub loop-arguments-smaller : goal.loop-arguments-smaller
 loop-arguments-smaller g c =

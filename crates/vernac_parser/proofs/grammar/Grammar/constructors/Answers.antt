@@ -19,8 +19,8 @@ takes : (limit : ℕ) → Takes (λ s. is_sign s Bar) (barred standard (within l
 unfolding barred constructor
 takes limit =
     only Bar _ (takes_sign Limit place_of Bar _ refl (λ bar. local_bind _ _ (local_taken word_of Identifier) (λ name.
-      local_bind _ _ (local_groups standard (within limit) (local_nested standard limit) (identifier_nested standard limit)) (λ gs.
-      local_bind _ _ (local_annotation standard (within limit) (local_nested standard limit) (identifier_nested standard limit)) (λ a. local_pure _)))))
+    local_bind _ _ (local_groups standard (within limit) (local_nested standard limit) (identifier_nested standard limit)) (λ gs.
+    local_bind _ _ (local_annotation standard (within limit) (local_nested standard limit) (identifier_nested standard limit)) (λ a. local_pure _)))))
 
 all_constructors : (cs : List Constructor) → onto (λ d. with_constructor (constructor_of d)) cs [] ≡ constructors_of cs
 all_constructors [] = refl
@@ -30,8 +30,8 @@ pub returns-in_err-barred : goal.returns-in_err-barred
 returns-in_err-barred g c =
     let p = err_from_is_err_and c.from_residual-in_err-barred.result c.from_residual-in_err-barred.ensures.1 in
     rw (p.1, p.2) (λ apart.
-      ap counted (sym c.loop-constructors.invariant)
-      ∙ failed constructor_of (λ s. is_sign s Bar) (barred standard (within c.args.self.now.limit)) with_constructor [] c.loop-constructors.constructors.items c.loop-constructors.tokens _ (sym c.sees.ensures ∙ c.loop-constructors-test.true) (c.in_err-barred.ensures apart))
+    ap counted (sym c.loop-constructors.invariant)
+    ∙ failed constructor_of (λ s. is_sign s Bar) (barred standard (within c.args.self.now.limit)) with_constructor [] c.loop-constructors.constructors.items c.loop-constructors.tokens _ (sym c.sees.ensures ∙ c.loop-constructors-test.true) (c.in_err-barred.ensures apart))
 
 pub loop-constructors-smaller : goal.loop-constructors-smaller
 loop-constructors-smaller g c =

@@ -25,8 +25,8 @@ pub returns-in_err-group : goal.returns-in_err-group
 returns-in_err-group g c =
     let p = err_from_is_err_and c.from_residual.result c.from_residual.ensures.1 in
     rw (p.1, p.2) (λ apart.
-      ap counted (sym c.loop-groups.invariant)
-      ∙ failed group_of (λ s. is_sign s Open) (group standard (within c.args.self.now.limit)) with_group NoGroup c.loop-groups.groups.items c.loop-groups.tokens _ (sym c.sees.ensures ∙ c.loop-groups-test.true) (c.in_err-group.ensures apart))
+    ap counted (sym c.loop-groups.invariant)
+    ∙ failed group_of (λ s. is_sign s Open) (group standard (within c.args.self.now.limit)) with_group NoGroup c.loop-groups.groups.items c.loop-groups.tokens _ (sym c.sees.ensures ∙ c.loop-groups-test.true) (c.in_err-group.ensures apart))
 
 pub loop-groups-smaller : goal.loop-groups-smaller
 loop-groups-smaller g c =
