@@ -19,5 +19,9 @@ pub mod ViableNested
 pub mod Answering
 pub mod CommandFaults
 pub mod CommandComplete
+pub mod CommandLocal
+pub mod CommandRefused
+pub mod ViableCommands
+pub mod CommandAnswering
 pub mod Turns
 pub mod Places

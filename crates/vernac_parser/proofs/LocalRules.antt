@@ -20,7 +20,7 @@ other_is_not : (s : Sign) → is_sign sign.Other s ≡ false → sign.Other ≡ 
 other_is_not s e k = let bad : true ≡ false = sym (is_same sign.Other s k) ∙ e in cc
 
 -- an optional part that begins with this token
-local_when : {A B : Type 0} (make : Token → A) (s : Sign) (f : A → Parser B) (q : Parser B) → is_sign sign.Other s ≡ false → ((x : A) → Local (f x)) → Local q → Local (when s (taken make s >>= f) q)
+pub local_when : {A B : Type 0} (make : Token → A) (s : Sign) (f : A → Parser B) (q : Parser B) → is_sign sign.Other s ≡ false → ((x : A) → Local (f x)) → Local q → Local (when s (taken make s >>= f) q)
 local_when make s f q e lf lq =
     local_choose (λ t. is_sign t s) (taken make s >>= f) q e
     (moves (λ t. is_sign t s) (taken make s >>= f) (λ t k i h. takes_bind Limit s (taken make s) f (takes_taken Limit s make (is_same s s refl) (other_is_not s e)) lf i (h ∙ same_sign t s k)))
