@@ -1,32 +1,32 @@
 -- The rules read every command, and so a token list has at most one.
-use Rattle.std.proofs.Common.{◌≡◌, ℕ, zero, suc, ◌+◌, ◌<◌, ◌≤◌, Bool, true, false, cond, Option, None, Some, Ok, Err, List, [], ◌∷◌, codes, length, refl, sym, ◌∙◌, ap, subst, arith}
+use Rattle.std.proofs.Common.{◌≡◌, ℕ, zero, suc, ◌+◌, ◌<◌, ◌≤◌, true, false, Option, None, Some, Ok, Err, List, [], ◌∷◌, codes, length, refl, sym, ◌∙◌, ap, arith}
 use Rattle.coq_syntax.specs.declared.token.Token.{Token}
 use Rattle.coq_syntax.specs.declared.words.TokenPlace.{TokenPlace}
 use Rattle.coq_syntax.specs.declared.words.Word.{Word}
 use Rattle.coq_syntax.specs.declared.command.AssumptionWord.TheVariants as assumption
 use Rattle.coq_syntax.specs.declared.command.StatementWord.TheVariants as statement
-use Rattle.coq_syntax.specs.Trees.{Term, GroupList, NoGroup, Group, Annotation, Untyped, Typed}
+use Rattle.coq_syntax.specs.Trees.{GroupList, Annotation, Untyped, Typed}
 use Rattle.coq_syntax.specs.CommandTrees.{Constructor, Command, Assume, Define, State, Inductive, Check, Proof, Qed, Defined, Admitted, Aborted}
 use Rattle.coq_syntax.specs.Spelled as spelled
 use Rattle.coq_syntax.specs.Spelled.{symbol, keyword, identifier, spells}
 use Rattle.coq_syntax.specs.Grammar.{AreGroups, IsAnnotation}
-use Rattle.coq_syntax.specs.Faults.{Fault, first}
-use Rattle.coq_syntax.specs.Commands.{bar, constructor as spelled_constructor, constructors as spelled_constructors, IsConstructor, IsBarred, AreBarred, AreConstructors, IsCommand, IsCommandOf, command_tokens}
+use Rattle.coq_syntax.specs.Faults.{first}
+use Rattle.coq_syntax.specs.Commands.{bar, constructors as spelled_constructors, IsBarred, AreBarred, AreConstructors, IsCommand, command_tokens}
 use Rattle.vernac_parser.specs.declared.sign.Sign.TheVariants as sign
 use Rattle.vernac_parser.specs.Signs.{is_sign, sign_at, symbol_sign, reserved_sign}
-use Rattle.vernac_parser.specs.Parser.{Outcome, Parser, and_then, ◌>>=◌, pure, take, many, repeated}
-use Rattle.vernac_parser.specs.Parse.{Rule, Whole, Checks, nested, groups, annotation, group, with_group}
+use Rattle.vernac_parser.specs.Parser.{Outcome, ◌>>=◌, pure, take, many, repeated}
+use Rattle.vernac_parser.specs.Parse.{Whole, Checks, nested, groups, annotation}
 use Rattle.vernac_parser.specs.CommandWords.{word_of_text}
 use Rattle.vernac_parser.specs.ParseCommand.{begins_constructor, with_constructor, assume, define, state, constructor, barred, first_constructor, constructors, inductive, check, row, ended, command}
 use Rattle.vernac_parser.specs.MeetsWhole.{OneCommand}
 use Rattle.vernac_parser.proofs.SignLaws.{reach}
 use Rattle.vernac_parser.proofs.Checked.{groups_fault_by, annotation_fault_by}
-use Rattle.vernac_parser.proofs.Answered.{answered, step, step_sure, step_last, step_free, took, passed, many_more, many_done}
+use Rattle.vernac_parser.proofs.Answered.{answered, step, step_sure, step_last, took, many_more, many_done}
 use Rattle.vernac_parser.proofs.Longer.{longer_groups, longer_annotation}
 use Rattle.vernac_parser.proofs.Tower.{inside}
 use Rattle.vernac_parser.proofs.Complete.{complete_groups, complete_annotation}
 use Rattle.vernac_parser.proofs.Unique.{complete_whole, loose}
-use Rattle.vernac_parser.proofs.CommandFaults.{command_spells, spelled_alone, Parts, constructor_faults, constructors_faults, command_faults, checked, first_joined, command_size, none_command}
+use Rattle.vernac_parser.proofs.CommandFaults.{command_spells, spelled_alone, constructor_faults, constructors_faults, command_faults, checked, command_size, none_command}
 
 -- what may follow an annotation that may be absent
 pub record After (rest : List Token) : Type 0 where

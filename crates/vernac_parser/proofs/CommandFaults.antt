@@ -1,12 +1,12 @@
 -- The tokens of a command, and then others; and its first fault before them.
-use Rattle.std.proofs.Common.{◌≡◌, ℕ, zero, suc, ◌+◌, ◌<◌, ◌≤◌, Option, None, Some, List, [], ◌∷◌, codes, refl, sym, ◌∙◌, ap, ap₂, arith}
+use Rattle.std.proofs.Common.{◌≡◌, ℕ, ◌+◌, ◌<◌, Option, None, Some, List, [], ◌∷◌, codes, refl, ◌∙◌, ap, ap₂, arith}
 use Rattle.coq_syntax.specs.declared.token.Token.{Token}
 use Rattle.coq_syntax.specs.Trees.{Term, GroupList, Annotation, size_of, size_of_groups, size_of_annotation}
 use Rattle.coq_syntax.specs.CommandTrees.{Constructor, Command, Assume, Define, State, Inductive, Check, Proof, Qed, Defined, Admitted, Aborted}
 use Rattle.coq_syntax.specs.Spelled.{symbol, keyword, identifier, spells, groups, annotation}
 use Rattle.coq_syntax.specs.Limits.{most_nested}
-use Rattle.coq_syntax.specs.Faults.{Fault, first, nested, fault, groups_fault, annotation_fault, term_fault}
-use Rattle.coq_syntax.specs.Commands.{assumption_word, statement_word, constructor, constructors, command_tokens, constructors_fault, command_fault}
+use Rattle.coq_syntax.specs.Faults.{Fault, first, fault, groups_fault, annotation_fault, term_fault}
+use Rattle.coq_syntax.specs.Commands.{assumption_word, statement_word, constructors, command_tokens, constructors_fault, command_fault}
 use Rattle.vernac_parser.specs.Parse.{Checks, standard}
 use Rattle.vernac_parser.proofs.Checked.{fault_by, groups_fault_by, annotation_fault_by, same_nested, standard_fault, standard_groups, standard_annotation}
 use Rattle.vernac_parser.proofs.Tower.{inside}

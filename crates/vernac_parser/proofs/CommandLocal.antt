@@ -1,34 +1,23 @@
 -- What a row of commands answers at a token doesn't depend on what stands behind; so no command goes on there.
-use Rattle.std.proofs.Common.{◌≡◌, ◌≢◌, ℕ, zero, suc, ◌+◌, ◌==◌, ◌<◌, ◌≤◌, ◌⊎◌, inl, inr, Bool, true, false, cond, Option, None, Some, Result, Ok, Err, List, [], ◌∷◌, ◌++◌, length, take as front, refl, sym, ◌∙◌, ap, subst, arith, append_assoc, append-nil}
+use Rattle.std.proofs.Common.{◌≡◌, ℕ, ◌⊎◌, inl, inr, Bool, true, false, cond, Option, None, Some, Ok, Err, List, [], ◌∷◌, ◌++◌, length, take as front, refl, sym, ◌∙◌, ap, subst, arith}
 use Rattle.coq_syntax.specs.declared.token.Token.{Token}
 use Rattle.coq_syntax.specs.declared.words.TokenPlace.{TokenPlace}
-use Rattle.coq_syntax.specs.declared.command.AssumptionWord.{AssumptionWord}
 use Rattle.coq_syntax.specs.declared.command.AssumptionWord.TheVariants as assumption
-use Rattle.coq_syntax.specs.declared.command.StatementWord.{StatementWord}
 use Rattle.coq_syntax.specs.declared.command.StatementWord.TheVariants as statement
 use Rattle.coq_syntax.specs.Trees.{Term}
 use Rattle.coq_syntax.specs.CommandTrees.{Constructor, Command, Assume, Define, State, Inductive, Check, Proof, Qed, Defined, Admitted, Aborted}
-use Rattle.coq_syntax.specs.Limits.{most_nested, too_deep}
-use Rattle.coq_syntax.specs.Faults.{Fault}
-use Rattle.coq_syntax.specs.Commands.{IsCommand, IsCommandOf, command_tokens, command_fault}
-use Rattle.vernac_parser.specs.declared.sign.Sign.{Sign}
 use Rattle.vernac_parser.specs.declared.sign.Sign.TheVariants as sign
 use Rattle.vernac_parser.specs.declared.command_word.CommandWord.{CommandWord}
 use Rattle.vernac_parser.specs.declared.command_word.CommandWord.TheVariants as word
 use Rattle.vernac_parser.specs.Signs.{is_sign, sign_of, sign_at}
-use Rattle.vernac_parser.specs.Parser.{Outcome, Parser, and_then, ◌>>=◌, pure, refuse, refuse_as, choose, when, unexpected, place_of, word_of, taken, take, identifier, repeated}
-use Rattle.vernac_parser.specs.Parse.{Rule, Whole, Checks, standard, nested, groups, annotation}
+use Rattle.vernac_parser.specs.Parser.{Outcome, Parser, and_then, ◌>>=◌, pure, unexpected, place_of, word_of, take, identifier, repeated}
+use Rattle.vernac_parser.specs.Parse.{Rule, Whole, Checks, nested, groups, annotation}
 use Rattle.vernac_parser.specs.CommandWords.{word_of_text, word_at}
-use Rattle.vernac_parser.specs.ParseCommand.{keyword, begins_constructor, with_constructor, assume, define, state, constructor, barred, first_constructor, constructors, inductive, check, by_word, row, ended, command, whole_command}
-use Rattle.vernac_parser.specs.Refusals.{IsLongest, NoTree}
+use Rattle.vernac_parser.specs.ParseCommand.{keyword, begins_constructor, with_constructor, assume, define, state, constructor, barred, first_constructor, constructors, inductive, check, by_word, row}
 use Rattle.vernac_parser.proofs.SignLaws.{same_sign}
-use Rattle.vernac_parser.proofs.Answered.{answered, took, passed}
-use Rattle.vernac_parser.proofs.Local.{stop, moved, Grade, Two, One, Ended, Agrees, Fits, Allowed, Local, nil_of, local_pure, local_refuse, local_bind, local_choose, local_taken}
-use Rattle.vernac_parser.proofs.Taking.{Taken, TakesAt, Limit, Takes, moves, takes_bind, takes_first, takes_second, local_repeated}
+use Rattle.vernac_parser.proofs.Local.{stop, moved, Grade, Two, One, Ended, Agrees, Allowed, Local, local_pure, local_refuse, local_bind, local_choose, local_taken}
+use Rattle.vernac_parser.proofs.Taking.{Taken, Limit, Takes, moves, takes_bind, takes_first, takes_second, local_repeated}
 use Rattle.vernac_parser.proofs.LocalRules.{takes_sign, only, local_when, local_nested, identifier_nested, local_groups, local_annotation}
-use Rattle.vernac_parser.proofs.Refused.{Sound, the_fault, equal_of, unequal_of}
-use Rattle.vernac_parser.proofs.CommandFaults.{spelled_alone, fault_alone, standard_command, sound_command}
-use Rattle.vernac_parser.proofs.CommandComplete.{command_read}
 
 module _ (c : Checks) (n : ℕ) where
   abbrev inner : Rule → Parser Term

@@ -1,18 +1,18 @@
 -- At a refusal no command goes on, and a limit is passed in each command that begins so.
-use Rattle.std.proofs.Common.{◌≡◌, ◌≢◌, ℕ, zero, suc, ◌+◌, ◌==◌, ◌<◌, ◌≤◌, ◌⊎◌, inl, inr, Bool, true, false, Option, None, Some, Result, Ok, Err, List, [], ◌∷◌, ◌++◌, length, take, refl, sym, ◌∙◌, ap, subst, arith, append_assoc, append-nil}
+use Rattle.std.proofs.Common.{◌≡◌, ℕ, suc, ◌==◌, Bool, true, false, Option, None, Some, Ok, Err, List, [], ◌∷◌, ◌++◌, length, take, refl, sym, ◌∙◌, ap, subst, arith, append_assoc, append-nil}
 use Rattle.coq_syntax.specs.declared.token.Token.{Token}
 use Rattle.coq_syntax.specs.CommandTrees.{Command}
 use Rattle.coq_syntax.specs.Limits.{most_nested, too_deep}
 use Rattle.coq_syntax.specs.Faults.{Fault}
-use Rattle.coq_syntax.specs.Commands.{IsCommandOf, command_tokens, command_fault}
-use Rattle.vernac_parser.specs.Parser.{Outcome, and_then, ◌>>=◌, pure, unexpected}
+use Rattle.coq_syntax.specs.Commands.{IsCommandOf, command_fault}
+use Rattle.vernac_parser.specs.Parser.{Outcome, and_then, pure, unexpected}
 use Rattle.vernac_parser.specs.Parse.{standard, nested}
 use Rattle.vernac_parser.specs.ParseCommand.{row, ended, command, whole_command}
 use Rattle.vernac_parser.specs.Refusals.{IsLongest, NoTree}
 use Rattle.vernac_parser.proofs.Answered.{answered}
-use Rattle.vernac_parser.proofs.Local.{stop, moved, Grade, Two, One, Ended, Agrees, Fits, Allowed, Local}
+use Rattle.vernac_parser.proofs.Local.{stop, moved, Grade, Two, One, Ended, Agrees, Fits, Allowed}
 use Rattle.vernac_parser.proofs.Refused.{Sound, equal_of, unequal_of}
-use Rattle.vernac_parser.proofs.CommandFaults.{command_spells, spelled_alone, command_faults, checked, plain, fault_alone, standard_command, sound_command}
+use Rattle.vernac_parser.proofs.CommandFaults.{spelled_alone, fault_alone, standard_command, sound_command}
 use Rattle.vernac_parser.proofs.CommandComplete.{command_read}
 use Rattle.vernac_parser.proofs.CommandLocal.{local_row}
 

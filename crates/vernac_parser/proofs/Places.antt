@@ -1,5 +1,5 @@
 -- Where what was read ends, as a place of the whole list.
-use Rattle.std.proofs.Common.{◌≡◌, ◌≢◌, ℕ, suc, None, ◌+◌, ◌-◌, ◌≤◌, ◌⊎◌, inl, inr, Result, Ok, Err, List, [], ◌∷◌, ◌++◌, length, take, drop, refl, sym, ◌∙◌, ap, subst, arith, append_assoc, length-append, length-drop}
+use Rattle.std.proofs.Common.{◌≡◌, ◌≢◌, ℕ, suc, None, ◌-◌, ◌≤◌, inl, inr, Ok, Err, List, [], ◌∷◌, ◌++◌, length, take, drop, refl, sym, ◌∙◌, ap, subst, arith, append_assoc, length-append, length-drop}
 use Rattle.std.proofs.lemmas.List.{take-append-drop, take_all}
 use Rattle.coq_syntax.specs.declared.token.Token.{Token}
 use Rattle.coq_syntax.specs.Tokens.{Tokens}
@@ -14,7 +14,7 @@ use Rattle.vernac_parser.specs.Meets.{IsRead, IsRefused, IsAnswer}
 use Rattle.coq_syntax.specs.CommandTrees.{Command}
 use Rattle.coq_syntax.specs.Commands.{IsCommandOf, command_fault}
 use Rattle.vernac_parser.specs.ParseCommand.{whole_command}
-use Rattle.vernac_parser.specs.MeetsWhole.{IsRefusedWhole, IsWholeAnswer, CommandAnswersMeet}
+use Rattle.vernac_parser.specs.MeetsWhole.{IsRefusedWhole, IsWholeAnswer}
 use Rattle.vernac_parser.specs.Answers.{IsParsed, IsCommandParsed, IsWithin, next_place, stop_of}
 use Rattle.vernac_parser.proofs.Answering.{answers_meet}
 use Rattle.vernac_parser.proofs.CommandAnswering as command

@@ -1,13 +1,12 @@
 -- A list that is read an item at a time is what the parser of the list answers.
-use Rattle.std.proofs.Common.{◌≡◌, ◌≢◌, ℕ, zero, suc, ◌<◌, Bool, true, false, cond, Result, Ok, Err, List, [], ◌∷◌, ◌++◌, length, refl, ap, subst, sym, ◌∙◌, arith}
+use Rattle.std.proofs.Common.{◌≡◌, ℕ, zero, suc, ◌<◌, Bool, true, false, cond, Ok, Err, List, [], ◌∷◌, ◌++◌, length, refl, ap, subst, sym, ◌∙◌, arith}
 use Rattle.coq_syntax.specs.declared.token.Token.{Token}
-use Rattle.coq_syntax.specs.Faults.{Fault}
 use Rattle.vernac_parser.specs.declared.sign.Sign.{Sign}
 use Rattle.vernac_parser.specs.Signs.{sign_at}
 use Rattle.vernac_parser.specs.declared.cursor.Halt.{Halt}
-use Rattle.vernac_parser.specs.declared.cursor.Halt.TheVariants.{Refused, NoMem}
+use Rattle.vernac_parser.specs.declared.cursor.Halt.TheVariants.{Refused}
 use Rattle.vernac_parser.specs.Reads.{counted}
-use Rattle.vernac_parser.specs.Parser.{Outcome, Parser, and_then, ◌>>=◌, pure, choose, many, repeated}
+use Rattle.vernac_parser.specs.Parser.{Outcome, Parser, and_then, ◌>>=◌, pure, many, repeated}
 use Rattle.vernac_parser.proofs.Answered.{chosen, passed_over}
 use Rattle.vernac_parser.proofs.Taking.{Takes, Taken, Limit}
 

@@ -1,5 +1,5 @@
 -- What was read before a refusal begins a command.
-use Rattle.std.proofs.Common.{◌≡◌, ◌≢◌, ℕ, zero, suc, ◌+◌, ◌<◌, ◌≤◌, ◌⊎◌, inl, inr, Bool, true, false, cond, Option, None, Some, Result, Ok, Err, List, [], ◌∷◌, ◌++◌, codes, bytes_eq, length, refl, sym, ◌∙◌, ap, subst, arith, append_assoc}
+use Rattle.std.proofs.Common.{◌≡◌, ℕ, Bool, true, false, cond, Option, None, Some, List, [], ◌∷◌, ◌++◌, codes, bytes_eq, refl, sym, ◌∙◌, ap, subst, append_assoc}
 use Rattle.std.proofs.lemmas.Slice.Eq.{bytes_eq-Decides}
 use Rattle.coq_syntax.specs.declared.token.Token.{Token}
 use Rattle.coq_syntax.specs.declared.token.TokenKind.TheVariants as kind
@@ -12,19 +12,19 @@ use Rattle.coq_syntax.specs.CommandTrees.{Constructor, Command, Assume, Define, 
 use Rattle.coq_syntax.specs.Spelled as spelled
 use Rattle.coq_syntax.specs.Spelled.{symbol, keyword, spells}
 use Rattle.coq_syntax.specs.Limits.{most_nested}
-use Rattle.coq_syntax.specs.Faults.{Fault, first, annotation_fault, term_fault}
+use Rattle.coq_syntax.specs.Faults.{first, annotation_fault, term_fault}
 use Rattle.coq_syntax.specs.Commands.{bar, constructor as spelled_constructor, constructors as spelled_constructors, IsConstructor, IsBarred, AreBarred, AreConstructors, IsCommand}
 use Rattle.vernac_parser.specs.declared.sign.Sign.TheVariants as sign
 use Rattle.vernac_parser.specs.declared.command_word.CommandWord.{CommandWord}
 use Rattle.vernac_parser.specs.declared.command_word.CommandWord.TheVariants as word
 use Rattle.vernac_parser.specs.Signs.{is_sign, sign_of, sign_at}
-use Rattle.vernac_parser.specs.Parser.{Outcome, Parser, and_then, ◌>>=◌, pure, refuse, unexpected, place_of, take, repeated}
+use Rattle.vernac_parser.specs.Parser.{Parser, and_then, pure, place_of, repeated}
 use Rattle.vernac_parser.specs.Parse.{Rule, Whole, standard, nested, groups, annotation}
-use Rattle.vernac_parser.specs.CommandWords.{word_of_text, word_at}
+use Rattle.vernac_parser.specs.CommandWords.{word_of_text}
 use Rattle.vernac_parser.specs.ParseCommand.{begins_constructor, with_constructor, constructor, barred, first_constructor, constructors, by_word, row, ended, command, whole_command}
 use Rattle.vernac_parser.proofs.SignLaws.{is_token, written_as}
 use Rattle.vernac_parser.proofs.Answered.{took}
-use Rattle.vernac_parser.proofs.Viable.{Shape, Read, Partial, Answers, Viable, behind_none, none_first, first_none, answer_pure, answer_refuse, answer_token, answer_mark, answer_word, answer_part, answer_last, answer_if, viable_repeated, answer_as}
+use Rattle.vernac_parser.proofs.Viable.{Shape, Read, Answers, Viable, behind_none, none_first, first_none, answer_pure, answer_refuse, answer_mark, answer_word, answer_part, answer_last, answer_if, viable_repeated, answer_as}
 use Rattle.vernac_parser.proofs.Shapes.{spare, x_word, x_term, x_token, Down, MoreGroups, AnAnnotation}
 use Rattle.vernac_parser.proofs.ViableRules.{viable_groups, viable_annotation}
 use Rattle.vernac_parser.proofs.ViableNested.{viable_down}
@@ -89,7 +89,7 @@ viable_first : Viable AnyConstructor (first_constructor standard inner)
 unfolding first_constructor barred
 viable_first i = answer_if AnyConstructor i (is_sign (sign_at i) sign.Bar) _ _
     (λ _. answer_mark AnyConstructor i sign.Bar _ [] i (x_token ∷ []) (made None x_word NoGroup Untyped) refl refl (tt, tt) (λ tail. refl) (λ tail. tt)
-        (λ p rest h. answer_as (With (Some p)) AnyConstructor i (constructor standard inner (Some p) rest) (λ c g. g.0) (λ c tail. refl) (λ c tail g. refl) (λ c rest' g e. tt) (viable_constructor (Some p) i rest h)))
+    (λ p rest h. answer_as (With (Some p)) AnyConstructor i (constructor standard inner (Some p) rest) (λ c g. g.0) (λ c tail. refl) (λ c tail g. refl) (λ c rest' g e. tt) (viable_constructor (Some p) i rest h)))
     (λ _. answer_as (With None) AnyConstructor i (constructor standard inner None i) (λ c g. g.0) (λ c tail. refl) (λ c tail g. refl) (λ c rest' g e. tt) (viable_constructor None i i refl))
 
 viable_more : Viable MoreBarred (repeated (λ s. is_sign s sign.Bar) (barred standard inner) with_constructor [])
@@ -99,7 +99,7 @@ viable_constructors : Viable SomeConstructors (constructors standard inner)
 unfolding constructors
 viable_constructors i = answer_if SomeConstructors i (begins_constructor (sign_at i)) _ _
     (λ _. answer_part SomeConstructors i AnyConstructor (first_constructor standard inner i) _ [] i [] (λ c. c ∷ []) refl (viable_first i) (λ c g. (g, tt)) (λ c tail. refl) (λ c tail. (None, refl, tt))
-        (λ c rest r h. answer_last SomeConstructors i MoreBarred (repeated (λ s. is_sign s sign.Bar) (barred standard inner) with_constructor [] rest) r.word rest (λ cs. c ∷ cs) h (viable_more rest) (λ cs g. (r.fits, g)) (λ cs tail. r.spelled (spelled_constructors cs tail)) (λ cs tail. ap (λ f. first f (constructors_faults plain cs tail)) (r.sound (spelled_constructors cs tail))) (λ cs rest' _ _. tt)))
+    (λ c rest r h. answer_last SomeConstructors i MoreBarred (repeated (λ s. is_sign s sign.Bar) (barred standard inner) with_constructor [] rest) r.word rest (λ cs. c ∷ cs) h (viable_more rest) (λ cs g. (r.fits, g)) (λ cs tail. r.spelled (spelled_constructors cs tail)) (λ cs tail. ap (λ f. first f (constructors_faults plain cs tail)) (r.sound (spelled_constructors cs tail))) (λ cs rest' _ _. tt)))
     (λ _. answer_pure SomeConstructors i [] i [] refl tt (λ tail. refl) (λ tail. refl) tt)
 
 -- the word of a command

@@ -1,6 +1,5 @@
 -- The rules of the grammar of commands, each as a parser. A command's terms stand by themselves: they are read by `inner`.
-use Rattle.std.specs.Prelude.{ℕ, Bool, true, false, Option, None, Some, Result, Ok, Err, List, [], ◌∷◌}
-use Rattle.coq_syntax.specs.declared.token.Token.{Token}
+use Rattle.std.specs.Prelude.{Bool, true, false, Option, None, Some, Ok, List, [], ◌∷◌}
 use Rattle.coq_syntax.specs.declared.words.TokenPlace.{TokenPlace}
 use Rattle.coq_syntax.specs.declared.command.AssumptionWord.{AssumptionWord}
 use Rattle.coq_syntax.specs.declared.command.AssumptionWord.TheVariants as assumption
@@ -14,7 +13,7 @@ use Rattle.vernac_parser.specs.declared.sign.Sign.TheVariants as sign
 use Rattle.vernac_parser.specs.declared.command_word.CommandWord.{CommandWord}
 use Rattle.vernac_parser.specs.declared.command_word.CommandWord.TheVariants as word
 use Rattle.vernac_parser.specs.Signs.{is_sign}
-use Rattle.vernac_parser.specs.Parser.{Outcome, Parser, and_then, ◌>>=◌, pure, ◌<$>◌, refuse, choose, when, take, identifier, repeated}
+use Rattle.vernac_parser.specs.Parser.{Parser, ◌>>=◌, pure, ◌<$>◌, refuse, choose, when, take, identifier, repeated}
 use Rattle.vernac_parser.specs.Parse.{Rule, Whole, Checks, standard, nested, groups, annotation}
 use Rattle.vernac_parser.specs.CommandWords.{word_at}
 

@@ -1,5 +1,5 @@
 -- What the code of a rule answers, by the parser of the rule.
-use Rattle.std.specs.Prelude.{◌≡◌, ◌≢◌, ℕ, List, length, Result, Ok, Err}
+use Rattle.std.specs.Prelude.{◌≡◌, ◌≢◌, List, length, Result, Ok, Err}
 use Rattle.coq_syntax.specs.declared.token.Token.{Token}
 use Rattle.vernac_parser.specs.declared.cursor.Halt.{Halt}
 use Rattle.vernac_parser.specs.declared.cursor.Halt.TheVariants.{Refused, NoMem}

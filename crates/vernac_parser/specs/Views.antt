@@ -1,6 +1,5 @@
 -- What the code reads, as the parsers see it.
-use Rattle.std.specs.Prelude.{List, [], ◌∷◌, ℕ}
-use Rattle.coq_syntax.specs.declared.words.BoundName.{BoundName}
+use Rattle.std.specs.Prelude.{ℕ}
 use Rattle.coq_syntax.specs.declared.tree.Group.{Group}
 use Rattle.coq_syntax.specs.declared.tree.Argument.{Argument}
 use Rattle.coq_syntax.specs.declared.tree.Argument.TheVariants.{Positional, Given}

@@ -1,11 +1,10 @@
-use Rattle.std.proofs.Common.{◌≡◌, [], refl, ap, sym, ◌∙◌, List, ◌∷◌, true, false, arith}
+use Rattle.std.proofs.Common.{◌≡◌, [], refl, ap, sym, ◌∙◌, List, ◌∷◌}
 use Rattle.std.proofs.lemmas.Result.{err_from_is_err_and}
 use Rattle.coq_syntax.specs.declared.words.BoundName.{BoundName}
-use Rattle.vernac_parser.specs.Parser.{repeated}
 use Rattle.vernac_parser.specs.Reads.{counted}
-use Rattle.vernac_parser.specs.Parse.{names, binder_name, is_name, with_name}
+use Rattle.vernac_parser.specs.Parse.{binder_name, is_name, with_name}
 use Rattle.vernac_parser.proofs.LocalRules.{takes_name}
-use Rattle.vernac_parser.proofs.Turns.{behind, onto, more, done, failed, smaller}
+use Rattle.vernac_parser.proofs.Turns.{onto, more, done, failed, smaller}
 use Rattle.vernac_parser.proofs.binders.names.Goals as goal
 
 all_names : (ns : List BoundName) → onto (λ n. with_name n) ns [] ≡ ns

@@ -1,4 +1,4 @@
-use Rattle.std.proofs.Common.{◌≡◌, ◌∙◌, arith}
+use Rattle.std.proofs.Common.{◌∙◌, arith}
 use Rattle.vernac_parser.proofs.Values.{read_digit}
 use Rattle.vernac_parser.proofs.number.value_of.Goals as goal
 

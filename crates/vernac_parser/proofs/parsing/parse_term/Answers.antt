@@ -1,6 +1,4 @@
-use Rattle.std.proofs.Common.{◌≡◌, ◌-◌, length, drop, take, ap, sym, ◌∙◌, subst, List, arith}
-use Rattle.coq_syntax.specs.declared.token.Token.{Token}
-use Rattle.vernac_parser.specs.Answers.{IsParsed}
+use Rattle.std.proofs.Common.{◌-◌, length, drop, take, ap, ◌∙◌, arith}
 use Rattle.vernac_parser.proofs.Places.{term_read, term_refused}
 use Rattle.vernac_parser.proofs.parsing.parse_term.Goals as goal
 

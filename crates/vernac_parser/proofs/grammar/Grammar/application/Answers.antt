@@ -1,4 +1,4 @@
-use Rattle.std.proofs.Common.{◌≡◌, ◌==◌, true, false, vec_len, List, [], ◌∷◌, length, refl, ap, ◌∙◌, arith}
+use Rattle.std.proofs.Common.{◌≡◌, ◌==◌, true, false, vec_len, List, [], ◌∷◌, length, refl, arith}
 use Rattle.coq_syntax.specs.declared.tree.Argument.{Argument}
 use Rattle.coq_syntax.specs.declared.tree.Argument.TheVariants.{Positional, Given}
 use Rattle.coq_syntax.specs.Trees.{Term, Apply}

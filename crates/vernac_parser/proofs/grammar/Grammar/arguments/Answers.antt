@@ -1,17 +1,16 @@
-use Rattle.std.proofs.Common.{◌≡◌, ℕ, [], refl, ap, sym, ◌∙◌, List, ◌∷◌, arith}
+use Rattle.std.proofs.Common.{◌≡◌, ℕ, [], refl, ap, sym, ◌∙◌, List, ◌∷◌}
 use Rattle.std.proofs.lemmas.Result.{err_from_is_err_and}
 use Rattle.coq_syntax.specs.declared.tree.Argument.{Argument}
 use Rattle.coq_syntax.specs.declared.tree.Argument.TheVariants.{Positional, Given}
 use Rattle.coq_syntax.specs.Trees.{NoArgument}
 use Rattle.coq_syntax.specs.Nodes.{arguments_of}
 use Rattle.vernac_parser.specs.Signs.{begins_atom}
-use Rattle.vernac_parser.specs.Parser.{repeated}
 use Rattle.vernac_parser.specs.Reads.{counted}
 use Rattle.vernac_parser.specs.Parse.{standard, argument, with_argument}
 use Rattle.vernac_parser.specs.Views.{within, argument_of}
 use Rattle.vernac_parser.proofs.Taking.{Takes}
 use Rattle.vernac_parser.proofs.LocalRules.{takes_argument, local_nested, identifier_nested}
-use Rattle.vernac_parser.proofs.Turns.{behind, onto, more, done, failed, smaller}
+use Rattle.vernac_parser.proofs.Turns.{onto, more, done, failed, smaller}
 use Rattle.vernac_parser.proofs.grammar.Grammar.arguments.Goals as goal
 
 takes : (limit : ℕ) → Takes begins_atom (argument standard (within limit))

@@ -1,18 +1,18 @@
-use Rattle.std.proofs.Common.{◌≡◌, ℕ, [], refl, ap, sym, ◌∙◌, List, ◌∷◌, Some, arith}
+use Rattle.std.proofs.Common.{◌≡◌, ℕ, [], refl, ap, sym, ◌∙◌, List, ◌∷◌}
 use Rattle.std.proofs.lemmas.Result.{err_from_is_err_and}
 use Rattle.coq_syntax.specs.declared.command.Constructor.{Constructor}
 use Rattle.coq_syntax.specs.Forms.{constructor_of, constructors_of}
 use Rattle.vernac_parser.specs.declared.sign.Sign.TheVariants.{Bar, Identifier}
 use Rattle.vernac_parser.specs.Signs.{is_sign}
-use Rattle.vernac_parser.specs.Parser.{repeated, place_of, word_of}
+use Rattle.vernac_parser.specs.Parser.{place_of, word_of}
 use Rattle.vernac_parser.specs.Reads.{counted}
 use Rattle.vernac_parser.specs.Parse.{standard}
 use Rattle.vernac_parser.specs.ParseCommand.{barred, constructor, with_constructor}
 use Rattle.vernac_parser.specs.Views.{within}
 use Rattle.vernac_parser.proofs.Taking.{Takes, Limit}
-use Rattle.vernac_parser.proofs.Local.{Local, local_bind, local_taken, local_pure}
+use Rattle.vernac_parser.proofs.Local.{local_bind, local_taken, local_pure}
 use Rattle.vernac_parser.proofs.LocalRules.{only, takes_sign, local_groups, local_annotation, local_nested, identifier_nested}
-use Rattle.vernac_parser.proofs.Turns.{behind, onto, more, done, failed, smaller}
+use Rattle.vernac_parser.proofs.Turns.{onto, more, done, failed, smaller}
 use Rattle.vernac_parser.proofs.grammar.Grammar.constructors.Goals as goal
 
 takes : (limit : ℕ) → Takes (λ s. is_sign s Bar) (barred standard (within limit))

@@ -1,17 +1,16 @@
-use Rattle.std.proofs.Common.{◌≡◌, ℕ, [], refl, ap, sym, ◌∙◌, List, ◌∷◌, arith}
+use Rattle.std.proofs.Common.{◌≡◌, ℕ, [], refl, ap, sym, ◌∙◌, List, ◌∷◌}
 use Rattle.std.proofs.lemmas.Result.{err_from_is_err_and}
 use Rattle.coq_syntax.specs.declared.tree.Group.{Group}
 use Rattle.coq_syntax.specs.Trees.{NoGroup}
 use Rattle.coq_syntax.specs.Nodes.{groups_of}
 use Rattle.vernac_parser.specs.declared.sign.Sign.TheVariants.{Open}
 use Rattle.vernac_parser.specs.Signs.{is_sign}
-use Rattle.vernac_parser.specs.Parser.{repeated}
 use Rattle.vernac_parser.specs.Reads.{counted}
 use Rattle.vernac_parser.specs.Parse.{standard, group, with_group}
 use Rattle.vernac_parser.specs.Views.{within, group_of}
 use Rattle.vernac_parser.proofs.Taking.{Takes}
 use Rattle.vernac_parser.proofs.LocalRules.{takes_group, local_nested, identifier_nested}
-use Rattle.vernac_parser.proofs.Turns.{behind, onto, more, done, failed, smaller}
+use Rattle.vernac_parser.proofs.Turns.{onto, more, done, failed, smaller}
 use Rattle.vernac_parser.proofs.grammar.Grammar.groups.Goals as goal
 
 takes : (limit : ℕ) → Takes (λ s. is_sign s Open) (group standard (within limit))
