@@ -1,5 +1,5 @@
 -- Where what was read ends, as a place of the whole list.
-use Rattle.std.proofs.Common.{◌≡◌, ◌≢◌, ℕ, suc, None, ◌-◌, ◌≤◌, inl, inr, Ok, Err, List, [], ◌∷◌, ◌++◌, length, take, drop, refl, sym, ◌∙◌, ap, subst, arith, append_assoc, length-append, length-drop}
+use Rattle.std.proofs.Common.{◌≡◌, ◌≢◌, ℕ, suc, None, ◌+◌, ◌-◌, ◌≤◌, ◌⊎◌, inl, inr, Result, Ok, Err, List, [], ◌∷◌, ◌++◌, length, take, drop, refl, sym, ◌∙◌, ap, subst, arith, append_assoc, length-append, length-drop}
 use Rattle.std.proofs.lemmas.List.{take-append-drop, take_all}
 use Rattle.coq_syntax.specs.declared.token.Token.{Token}
 use Rattle.coq_syntax.specs.Tokens.{Tokens}
@@ -17,7 +17,7 @@ use Rattle.vernac_parser.specs.ParseCommand.{whole_command}
 use Rattle.vernac_parser.specs.MeetsWhole.{IsRefusedWhole, IsWholeAnswer}
 use Rattle.vernac_parser.specs.Answers.{IsParsed, IsCommandParsed, IsWithin, next_place, stop_of}
 use Rattle.vernac_parser.proofs.Answering.{answers_meet}
-use Rattle.vernac_parser.proofs.CommandAnswering as command
+use Rattle.vernac_parser.proofs.CommandAnswering.{answers_meet as commands_meet}
 
 tail_of : (front rest : List Token) → drop (length (front ++ rest) - length rest) (front ++ rest) ≡ rest
 tail_of [] rest = let e : length rest - length rest ≡ 0 = omega arith in ap (λ n. drop n rest) e
@@ -78,7 +78,7 @@ term_refused tokens at i (Refused code left) b h = halted tokens at i (whole_ter
 
 pub command_read : (items i left : List Token) (c : Command) → i ≡ items → whole_command i ≡ Ok (c, left) → IsCommandOf items c × (command_fault c ≡ None)
 command_read items i left c same e =
-    let h : IsWholeAnswer IsCommandOf command_fault i (Ok (c, left)) = subst (IsWholeAnswer IsCommandOf command_fault i) e (command.answers_meet i) in (subst (λ l. IsCommandOf l c) same h.1, h.2)
+    let h : IsWholeAnswer IsCommandOf command_fault i (Ok (c, left)) = subst (IsWholeAnswer IsCommandOf command_fault i) e (commands_meet i) in (subst (λ l. IsCommandOf l c) same h.1, h.2)
 
 cut_command : (i : List Token) (f : Fault) → IsRefusedWhole IsCommandOf command_fault i f → (used : List Token) × (i ≡ used ++ f.rest)
 cut_command i f (inl h) = (h.1.used, h.1.parts)
@@ -97,4 +97,4 @@ command_halted tokens (Err f) e h c = let same : Refused f.code (length f.rest) 
 pub command_refused : (tokens : Tokens) (i : List Token) (e : Halt) → i ≡ tokens.items → (e ≢ NoMem → counted (whole_command i) ≡ Err e) → IsWithin e (length tokens.items) × IsCommandParsed tokens (Err (stop_of tokens e))
 command_refused tokens i NoMem same h = (tt, tt)
 command_refused tokens i (Refused code left) same h =
-    command_halted tokens (whole_command i) (Refused code left) (subst (λ l. IsWholeAnswer IsCommandOf command_fault l (whole_command i)) same (command.answers_meet i)) (h (λ e. cc))
+    command_halted tokens (whole_command i) (Refused code left) (subst (λ l. IsWholeAnswer IsCommandOf command_fault l (whole_command i)) same (commands_meet i)) (h (λ e. cc))
