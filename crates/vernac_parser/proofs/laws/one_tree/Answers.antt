@@ -1,0 +1,6 @@
+-- The law is proved in `Unique`.
+use Rattle.vernac_parser.proofs.Unique as unique
+use Rattle.vernac_parser.proofs.laws.one_tree.Goals as goal
+
+pub returns : goal.returns
+returns c = unique.one_tree

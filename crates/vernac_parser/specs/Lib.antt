@@ -1,0 +1,13 @@
+pub mod Signs
+pub mod Parser
+pub mod Parse
+pub mod Refusals
+pub mod Numbers
+pub mod Reads
+pub mod Views
+pub mod Nests
+pub mod Meets
+pub mod CommandWords
+pub mod ParseCommand
+pub mod MeetsWhole
+pub mod Answers

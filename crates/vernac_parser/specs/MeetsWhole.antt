@@ -1,0 +1,30 @@
+-- What a parser of whole token lists answers, for any grammar: the one tree, or the leftmost refusal.
+use Rattle.std.specs.Prelude.{◌≡◌, ◌⊎◌, Option, None, Ok, Err, List, []}
+use Rattle.coq_syntax.specs.declared.token.Token.{Token}
+use Rattle.coq_syntax.specs.Faults.{Fault}
+use Rattle.coq_syntax.specs.Commands.{IsCommandOf, command_fault}
+use Rattle.vernac_parser.specs.Parser.{Outcome, Parser, unexpected}
+use Rattle.vernac_parser.specs.Refusals.{OneTreeOf, IsUnexpected, IsLimit}
+use Rattle.vernac_parser.specs.ParseCommand.{whole_command}
+
+module _ {A : Type 0} (Is : List Token → A → Type 0) (fault_of : A → Option Fault) where
+  -- the next token is unexpected, or a limit is passed there
+  abbrev pub IsRefusedWhole : List Token → Fault → Type 0
+  IsRefusedWhole tokens f = ((f.code ≡ unexpected) × IsUnexpected Is fault_of tokens f.rest) ⊎ IsLimit Is fault_of tokens f
+
+  -- the answer to these tokens
+  abbrev pub IsWholeAnswer : List Token → Outcome A → Type 0
+  IsWholeAnswer tokens (Ok p) = (p.1 ≡ []) × Is tokens p.0 × (fault_of p.0 ≡ None)
+  IsWholeAnswer tokens (Err f) = IsRefusedWhole tokens f
+
+  -- every list gets such an answer by this parser
+  abbrev pub WholeAnswersMeet : Parser A → Type 0
+  WholeAnswersMeet p = (tokens : List Token) → IsWholeAnswer tokens (p tokens)
+
+-- every list gets such an answer by the rules of commands
+abbrev pub CommandAnswersMeet : Type 0
+CommandAnswersMeet = WholeAnswersMeet IsCommandOf command_fault whole_command
+
+-- a token list has at most one command
+abbrev pub OneCommand : Type 0
+OneCommand = OneTreeOf IsCommandOf

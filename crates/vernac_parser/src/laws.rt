@@ -1,0 +1,24 @@
+//! Laws of the grammar and of the rules, for the proofs above this crate.
+
+ghost use Rattle.vernac_parser.specs.Meets.{OneTree, AnswersMeet};
+ghost use Rattle.vernac_parser.specs.MeetsWhole.{OneCommand, CommandAnswersMeet};
+
+/// A token list has at most one tree.
+pub fn one_tree()
+    ensures { OneTree }
+{}
+
+/// By the rules a token list gets the one tree at its front, or the leftmost refusal.
+pub fn law_of_answers()
+    ensures { AnswersMeet }
+{}
+
+/// A token list has at most one command.
+pub fn one_command()
+    ensures { OneCommand }
+{}
+
+/// By the rules a token list is the one command, or gets the leftmost refusal.
+pub fn law_of_commands()
+    ensures { CommandAnswersMeet }
+{}

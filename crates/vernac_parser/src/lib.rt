@@ -1,0 +1,20 @@
+//! The parser of terms and commands: a token list to its one tree, or the leftmost refusal.
+#![tactic(auto)]
+
+mod atoms;
+mod binders;
+mod command_word;
+mod commands;
+mod cursor;
+mod grammar;
+mod laws;
+mod number;
+mod operators;
+mod parsing;
+mod rule;
+mod sign;
+#[cfg(test)]
+mod tests;
+
+pub use laws::{law_of_answers, law_of_commands, one_command, one_tree};
+pub use parsing::{Parsed, parse_command, parse_term};

@@ -1,0 +1,81 @@
+//! Terms and commands of a token list.
+
+ghost use Rattle.std.specs.Prelude.{◌≡◌, ◌≤◌, ◌-◌, length, drop};
+ghost use Rattle.vernac_parser.specs.Answers.{IsParsed, IsCommandParsed, IsWithin, next_place, stop_of};
+
+use crate::cursor::{Halt, Tokens};
+use crate::grammar::{Grammar, MOST_NESTED, nested};
+use crate::rule::Rule;
+use base_core::{Place, Refusal, Stop};
+use coq_syntax::{Command, SurfaceTerm, TokenList};
+use std::alloc::Global;
+
+/// A term, and the first place of the token list that no longer belongs to it.
+#[derive(Drop)]
+pub struct Parsed {
+    pub tree: SurfaceTerm,
+    pub next: usize,
+}
+
+/// Where a token stands that has so many behind it, itself included; for none it is the period.
+fn place_of(tokens: &TokenList, left: usize) -> Place
+    requires { left ≤ length tokens.now.items }
+    ensures { result ≡ next_place tokens.now.period (drop (length tokens.now.items - left) tokens.now.items) }
+{
+    let items = tokens.as_slice();
+    match &items[items.len() - left..] {
+        [next, ..] => Place::Part {
+            from: next.from,
+            to: next.to,
+        },
+        [] => Place::Part {
+            from: tokens.period(),
+            to: tokens.period().saturating_add(1),
+        },
+    }
+}
+
+fn stop_of(tokens: &TokenList, halt: Halt) -> Stop
+    requires { IsWithin halt (length tokens.now.items) }
+    ensures { result ≡ stop_of tokens.now halt }
+{
+    match halt {
+        Halt::Refused { code, left } => Stop::Refused(Refusal {
+            code,
+            place: place_of(tokens, left),
+        }),
+        Halt::NoMem => Stop::NoMem,
+    }
+}
+
+/// The term that begins at a place of the list, as long as it can be.
+pub fn parse_term(alloc: Global, tokens: &TokenList, at: usize) -> Result<Parsed, Stop>
+    requires { at ≤ length tokens.now.items }
+    ensures { IsParsed tokens.now at result }
+{
+    let items = tokens.as_slice();
+    let mut rest = Tokens::new(&items[at..]);
+    match nested(alloc, &mut rest, MOST_NESTED, Rule::Whole) {
+        Ok(tree) => Ok(Parsed {
+            tree,
+            next: items.len() - rest.left(),
+        }),
+        Err(halt) => Err(stop_of(tokens, halt)),
+    }
+}
+
+/// The command that the list is, whole.
+pub fn parse_command(alloc: Global, tokens: &TokenList) -> Result<Command, Stop>
+    ensures { IsCommandParsed tokens.now result }
+{
+    let grammar = Grammar {
+        alloc,
+        limit: MOST_NESTED,
+        nested,
+    };
+    let mut rest = Tokens::new(tokens.as_slice());
+    match grammar.command(&mut rest) {
+        Ok(command) => Ok(command),
+        Err(halt) => Err(stop_of(tokens, halt)),
+    }
+}
