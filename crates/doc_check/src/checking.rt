@@ -1,7 +1,8 @@
 ghost use Rattle.std.specs.Prelude.{◌≡◌, ◌+◌, ◌^◌, ◌<◌, ◌≤◌, ◌++◌, [], ◌∷◌, All, map, length, IfOk, IfSome, OnOk};
 ghost use Rattle.sentence_split.specs.Within.{IsSpanOf};
 ghost use Rattle.prover_iface.specs.Sentences.{sentence_at};
-ghost use Rattle.prover_iface.specs.Laws.{IsDiag};
+ghost use Rattle.prover_iface.specs.Exec.{Works};
+ghost use Rattle.doc_check.specs.Kept.{RunsWithin};
 ghost use Rattle.prover_iface.specs.Check.{shifted, whole_error, left_open, report_of, checked, IsPlaced};
 
 use base_core::{NoMem, Steps, Text};
@@ -40,8 +41,40 @@ fn add_shifted(
     Ok(())
 }
 
+/// Runs the sentence at a place of a text, where it costs at most these units: the state behind it, and
+/// what it cost.
+pub(crate) fn run_within<P: Prover, C: Ledger>(
+    alloc: Global,
+    prover: &P,
+    state: &P::State,
+    text: &str,
+    span: &Span,
+    units: u32,
+    diags: &mut DiagList,
+    steps: &mut Steps<C>,
+) -> Result<Option<(P::State, u32)>, NoMem>
+    requires short { length text.now ≤ 1048576 }
+    requires span { IsSpanOf text.now span.now }
+    ensures runs { IfOk result (λ ran. RunsWithin P.meaning (P.after (P.meaning state.now) (sentence_at text.now span.now)) (P.cost (P.meaning state.now) (sentence_at text.now span.now)) units ran) }
+    ensures diags { IfOk result (λ ran. IfSome ran (λ _. diags.new ≡ diags.old ++ map (shifted span.now.from) (P.diagnosed (P.meaning state.now) (sentence_at text.now span.now)))) }
+    ensures work { Works (P.cost (P.meaning state.now) (sentence_at text.now span.now)) units steps.old steps.new result }
+{
+    let sentence = &text[span.from as usize..span.to as usize];
+    match prover.exec(alloc, state, span.kind, sentence, units, steps)? {
+        Outcome::Done {
+            state,
+            diags: given,
+            cost,
+        } => {
+            add_shifted(alloc, diags, given.as_slice(), span.from, sentence.len())?;
+            Ok(Some((state, cost)))
+        }
+        Outcome::Interrupted => Ok(None),
+    }
+}
+
 /// Runs the sentence at a place of a text.
-pub(crate) fn run_one<P: Prover, C: Ledger>(
+fn run_one<P: Prover, C: Ledger>(
     alloc: Global,
     prover: &P,
     state: &P::State,
@@ -55,17 +88,9 @@ pub(crate) fn run_one<P: Prover, C: Ledger>(
     ensures state { IfOk result (λ s. P.meaning s ≡ P.after (P.meaning state.now) (sentence_at text.now span.now)) }
     ensures diags { OnOk result (diags.new ≡ diags.old ++ map (shifted span.now.from) (P.diagnosed (P.meaning state.now) (sentence_at text.now span.now))) }
 {
-    let sentence = &text[span.from as usize..span.to as usize];
-    match prover.exec(alloc, state, span.kind, sentence, ALL_UNITS, steps)? {
-        Outcome::Done {
-            state,
-            diags: given,
-            cost: _,
-        } => {
-            add_shifted(alloc, diags, given.as_slice(), span.from, sentence.len())?;
-            Ok(state)
-        }
-        Outcome::Interrupted => unreachable!(),
+    match run_within(alloc, prover, state, text, span, ALL_UNITS, diags, steps)? {
+        Some((state, _)) => Ok(state),
+        None => unreachable!(),
     }
 }
 

@@ -1,13 +1,14 @@
-ghost use Rattle.std.specs.Prelude.{◌≡◌, ℕ, ◌+◌, ◌^◌, ◌<◌, ◌≤◌, List, ◌++◌, All, false, true, map, length, IfOk, OnOk};
+ghost use Rattle.std.specs.Prelude.{◌≡◌, ℕ, ◌+◌, ◌^◌, ◌<◌, ◌≤◌, List, ◌++◌, All, false, true, map, take, length, IfOk, IfSome, OnOk, MatchOption, if◌then◌else◌};
 ghost use Rattle.std.specs.Result.{IsErrOf};
 ghost use Rattle.std.specs.List.{flat_map};
 ghost use Rattle.sentence_split.specs.Sentences.{sentences};
 ghost use Rattle.sentence_split.specs.Within.{IsSpanOf};
 ghost use Rattle.prover_iface.specs.Sentences.{sentence_at};
-ghost use Rattle.prover_iface.specs.Check.{shifted, checked, IsPlaced};
-ghost use Rattle.doc_check.specs.Kept.{span_of, is_ended, IsKept};
+ghost use Rattle.prover_iface.specs.Exec.{Works};
+ghost use Rattle.prover_iface.specs.Check.{shifted, checked, state_after, IsPlaced};
+ghost use Rattle.doc_check.specs.Kept.{span_of, is_ended, next_cost, IsKept, Advances};
 
-use crate::checking::{add_left_open, run_one};
+use crate::checking::{add_left_open, run_within};
 use base_core::{NoMem, Steps, Text};
 use prover_iface::{DiagList, Prover, RelDiag};
 use sentence_split::{SpanList, split};
@@ -15,6 +16,17 @@ use std::alloc::Global;
 use std::marker::Model;
 use std::sync::ledger::Ledger;
 use utf16_doc::{Doc, DocStop};
+
+/// What became of a call to finish one more sentence.
+#[derive(Clone, Copy, Debug, PartialEq, Eq)]
+pub enum Advance {
+    /// There is none.
+    Ended,
+    /// It is finished, at this cost.
+    Finished { spent: u32 },
+    /// It costs more than the units, and nothing came of it.
+    Interrupted,
+}
 
 /// A text that is checked sentence by sentence, with what is kept of the finished ones.
 #[derive(Drop)]
@@ -53,7 +65,15 @@ fn read_text(alloc: Global, text: &str) -> Result<(Doc, SpanList), DocStop>
     }
 }
 
-/// Runs the sentence of a number.
+/// What came of a sentence that ran to its end.
+#[derive(Drop)]
+struct Ran<P: Prover> {
+    state: P::State,
+    given: DiagList,
+    cost: u32,
+}
+
+/// Runs the sentence of a number, where it costs at most these units.
 fn run_next<P: Prover, C: Ledger>(
     alloc: Global,
     prover: &P,
@@ -61,20 +81,26 @@ fn run_next<P: Prover, C: Ledger>(
     doc: &Doc,
     spans: &SpanList,
     number: usize,
+    units: u32,
     steps: &mut Steps<C>,
-) -> Result<(P::State, DiagList), NoMem>
+) -> Result<Option<Ran<P>>, NoMem>
     requires short { length doc.now ≤ 1048576 }
     requires placed { All (IsSpanOf doc.now) spans.now }
     requires within { number < length spans.now }
     ensures within { number < length spans.now }
     ensures room { number + 1 < 2 ^ 64 }
-    ensures state { IfOk result (λ r. P.meaning r.0 ≡ P.after (P.meaning state.now) (sentence_at doc.now (span_of spans.now number))) }
-    ensures given { IfOk result (λ r. r.1 ≡ map (shifted (span_of spans.now number).from) (P.diagnosed (P.meaning state.now) (sentence_at doc.now (span_of spans.now number)))) }
+    ensures runs { IfOk result (λ ran. MatchOption ran (units < P.cost (P.meaning state.now) (sentence_at doc.now (span_of spans.now number))) (λ r. (r.cost ≡ P.cost (P.meaning state.now) (sentence_at doc.now (span_of spans.now number))) × (r.cost ≤ units))) }
+    ensures state { IfOk result (λ ran. IfSome ran (λ r. P.meaning r.state ≡ P.after (P.meaning state.now) (sentence_at doc.now (span_of spans.now number)))) }
+    ensures given { IfOk result (λ ran. IfSome ran (λ r. r.given ≡ map (shifted (span_of spans.now number).from) (P.diagnosed (P.meaning state.now) (sentence_at doc.now (span_of spans.now number))))) }
+    ensures work { Works (P.cost (P.meaning state.now) (sentence_at doc.now (span_of spans.now number))) units steps.old steps.new result }
 {
     let mut given = DiagList::new(alloc);
     let span = &spans.as_slice()[number];
-    let state = run_one(alloc, prover, state, doc.text(), span, &mut given, steps)?;
-    Ok((state, given))
+    let text = doc.text();
+    match run_within(alloc, prover, state, text, span, units, &mut given, steps)? {
+        Some((state, cost)) => Ok(Some(Ran { state, given, cost })),
+        None => Ok(None),
+    }
 }
 
 /// What is told of all sentences, and last the refusal of a proof that is left open.
@@ -97,21 +123,22 @@ fn all_told<P: Prover>(
 }
 
 impl<P: Prover> DocCheck<P> {
-    /// A text of which no sentence is finished. TooLong comes exactly where it has over 1,048,576
-    /// bytes.
-    pub fn new<C: Ledger>(
+    /// A text of which no sentence is finished, over the prover's first state. TooLong comes exactly
+    /// where it has over 1,048,576 bytes.
+    pub fn new(
         alloc: Global,
         text: &str,
         prover: &P,
-        steps: &mut Steps<C>,
+        first: &P::State,
     ) -> Result<DocCheck<P>, DocStop>
+        requires { P.meaning first.now ≡ P.first }
         ensures begun { IfOk result (λ d. (d.text ≡ text.now) × (d.done ≡ 0)) }
         ensures short { IfOk result (λ _. length text.now ≤ 1048576) }
         ensures too_long { IsErrOf result DocStop.TooLong → 1048576 < length text.now }
         ensures no_range { IsErrOf result DocStop.RangeReversed → ⊥ }
     {
         let (doc, spans) = read_text(alloc, text)?;
-        match prover.initial(alloc, steps) {
+        match prover.share(first) {
             Ok(state) => Ok(DocCheck {
                 doc,
                 spans,
@@ -144,29 +171,79 @@ impl<P: Prover> DocCheck<P> {
         self.spans.as_slice().len() - self.done
     }
 
-    /// Finishes one more sentence.
+    /// How many sentences are finished.
+    pub fn done(&self) -> usize
+        ensures done { result ≡ self.now.done }
+        ensures few { result ≤ length (sentences 0 0 self.now.text) }
+    {
+        self.done
+    }
+
+    /// Finishes the next sentence, if there is one and it costs at most these units, in one run of the
+    /// prover.
     pub fn advance<C: Ledger>(
         &mut self,
         alloc: Global,
         prover: &P,
+        units: u32,
         steps: &mut Steps<C>,
-    ) -> Result<(), NoMem>
-        requires { is_ended self.old ≡ false }
+    ) -> Result<Advance, NoMem>
+        ensures advances { Advances (next_cost P.first P.after P.cost) units self.old result self.new }
+        ensures work { Works (if is_ended self.old then 0 else next_cost P.first P.after P.cost self.old) units steps.old steps.new result }
+    {
+        if self.is_ended() {
+            return Ok(Advance::Ended);
+        }
+        match self.run(alloc, prover, units, steps)? {
+            Some(ran) => {
+                let spent = ran.cost;
+                self.finish(ran)?;
+                Ok(Advance::Finished { spent })
+            }
+            None => Ok(Advance::Interrupted),
+        }
+    }
+
+    /// The next sentence is finished: what came of it is kept.
+    fn finish(&mut self, ran: Ran<P>) -> Result<(), NoMem>
+        requires within { self.old.done < length (sentences 0 0 self.old.text) }
+        requires room { self.old.done + 1 < 2 ^ 64 }
+        requires state { P.meaning ran.state ≡ P.after (state_after P.after P.first self.old.text (take self.old.done (sentences 0 0 self.old.text))) (sentence_at self.old.text (span_of (sentences 0 0 self.old.text) self.old.done)) }
+        requires given { ran.given ≡ map (shifted (span_of (sentences 0 0 self.old.text) self.old.done).from) (P.diagnosed (state_after P.after P.first self.old.text (take self.old.done (sentences 0 0 self.old.text))) (sentence_at self.old.text (span_of (sentences 0 0 self.old.text) self.old.done))) }
         ensures { OnOk result (self.new ≡ record self.old { done = self.old.done + 1 }) }
     {
-        let (state, given) = run_next(
+        self.given.push(ran.given)?;
+        self.state = ran.state;
+        self.done += 1;
+        Ok(())
+    }
+
+    /// Runs the next sentence.
+    fn run<C: Ledger>(
+        &self,
+        alloc: Global,
+        prover: &P,
+        units: u32,
+        steps: &mut Steps<C>,
+    ) -> Result<Option<Ran<P>>, NoMem>
+        requires { is_ended self.now ≡ false }
+        ensures runs { IfOk result (λ ran. MatchOption ran (units < next_cost P.first P.after P.cost self.now) (λ r. (r.cost ≡ next_cost P.first P.after P.cost self.now) × (r.cost ≤ units))) }
+        ensures state { IfOk result (λ ran. IfSome ran (λ r. P.meaning r.state ≡ P.after (state_after P.after P.first self.now.text (take self.now.done (sentences 0 0 self.now.text))) (sentence_at self.now.text (span_of (sentences 0 0 self.now.text) self.now.done)))) }
+        ensures given { IfOk result (λ ran. IfSome ran (λ r. r.given ≡ map (shifted (span_of (sentences 0 0 self.now.text) self.now.done).from) (P.diagnosed (state_after P.after P.first self.now.text (take self.now.done (sentences 0 0 self.now.text))) (sentence_at self.now.text (span_of (sentences 0 0 self.now.text) self.now.done))))) }
+        ensures within { self.now.done < length (sentences 0 0 self.now.text) }
+        ensures room { self.now.done + 1 < 2 ^ 64 }
+        ensures work { Works (next_cost P.first P.after P.cost self.now) units steps.old steps.new result }
+    {
+        run_next(
             alloc,
             prover,
             &self.state,
             &self.doc,
             &self.spans,
             self.done,
+            units,
             steps,
-        )?;
-        self.given.push(given)?;
-        self.state = state;
-        self.done += 1;
-        Ok(())
+        )
     }
 
     /// The byte at which the first sentence that isn't finished begins.

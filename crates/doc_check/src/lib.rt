@@ -5,4 +5,4 @@ mod checking;
 mod kept;
 
 pub use checking::check_text;
-pub use kept::DocCheck;
+pub use kept::{Advance, DocCheck};
