@@ -4,3 +4,4 @@ pub mod Heard
 pub mod Turned
 pub mod Played
 pub mod Told
+pub mod Statuses

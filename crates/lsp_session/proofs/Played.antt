@@ -13,6 +13,10 @@ polled_none : (old : Option (List Poll)) → old ≡ polled_all old []
 polled_none None = refl
 polled_none (Some told) = ap Some (sym (append-nil told))
 
+-- no poll leads nowhere
+pub plays_none : {S : Type 0} (rules : Rules S) (paced : Bool) (start : S) (bytes : List ℕ) (told : Option (List ℕ)) (old : Option (List Poll)) → bytes ≡ [] → Plays rules paced (Going start [] 0 told) (Going start bytes 0 told) old old
+plays_none rules paced start bytes told old e = record { polls = []; grown = polled_none old; plays = ap (λ b. Going start b 0 told) (sym e) }
+
 polled_next : (old : Option (List Poll)) (polls : List Poll) (one : Poll) → polled (polled_all old polls) one ≡ polled_all old (polls ++ one ∷ [])
 polled_next None polls one = refl
 polled_next (Some told) polls one = ap Some (append_assoc told polls (one ∷ []))

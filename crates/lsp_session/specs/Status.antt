@@ -1,5 +1,5 @@
 -- Exit statuses of a session.
-use Rattle.std.specs.Prelude.{ℕ, Result, Ok, Err}
+use Rattle.std.specs.Prelude.{ℕ, Result, Ok, Err, [], ◌∷◌, Contains}
 use Rattle.lsp_session.specs.declared.endings.Exit.TheVariants.{Clean, Early}
 use Rattle.lsp_session.specs.declared.endings.Ending.{Ending}
 use Rattle.lsp_session.specs.declared.endings.Ending.TheVariants.{Exit, LinkFailed, LinkEnded, FrameFault, TakenLimit}
@@ -20,3 +20,7 @@ abbrev pub result_status : Result Ending Halt → ℕ
 result_status (Ok ending) = status_of ending
 result_status (Err NoMem) = 4
 result_status (Err SinkFailed) = 5
+
+-- no other status is answered
+abbrev pub IsStatus : ℕ → Type 0
+IsStatus status = Contains (0 ∷ 1 ∷ 3 ∷ 4 ∷ 5 ∷ 6 ∷ 7 ∷ 10 ∷ []) status

@@ -1,5 +1,5 @@
 ghost use Rattle.std.specs.Prelude.{◌≡◌, ◌≢◌, Ok, Err};
-ghost use Rattle.lsp_session.specs.Status.{result_status};
+ghost use Rattle.lsp_session.specs.Status.{result_status, IsStatus};
 
 use base_core::NoMem;
 use thiserror::Error;
@@ -46,7 +46,8 @@ impl From<NoMem> for Halt {
 
 /// The exit status.
 pub fn number(end: Result<Ending, Halt>) -> u8
-    ensures { result ≡ result_status end }
+    ensures value { result ≡ result_status end }
+    ensures known { IsStatus result }
 {
     match end {
         Ok(Ending::Exit(Exit::Clean)) => 0,

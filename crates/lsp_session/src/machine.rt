@@ -1,11 +1,12 @@
-ghost use Rattle.std.specs.Prelude.{◌≡◌, ◌+◌, ◌<◌, ◌≤◌, false, ℕ, OnOk, [], ◌∷◌, ◌++◌};
+ghost use Rattle.std.specs.Prelude.{◌≡◌, ◌+◌, ◌<◌, ◌≤◌, Bool, false, ℕ, OnOk, [], ◌∷◌, ◌++◌};
 ghost use Rattle.lsp_session.specs.Rules.{Rules, Makes};
 
 use crate::Exit;
-use base_core::{Bytes, NoMem};
+use base_core::{Bytes, NoMem, Steps};
 use lsp_types::{DecodeFault, Incoming};
 use std::alloc::Global;
 use std::marker::Model;
+use std::sync::ledger::Ledger;
 
 /// Bodies of messages, in order.
 #[derive(Debug, Drop)]
@@ -54,34 +55,42 @@ pub struct Written {
 }
 
 /// What a session drives: it takes a message or a while without one, and gives the bodies that are
-/// then due. The rules of its steps name no value of it: they are the same for each.
+/// then due. The rules of its steps are those of a paced session, or of one that isn't; they name no
+/// value of it: they are the same for each. What work a step does is counted.
 pub trait Machine {
     /// What a machine is, for contracts.
     ghost Plain: { Type 0 };
 
     ghost plain: { Self → Plain };
 
-    ghost rules: { Rules Plain };
+    ghost rules: { Bool → Rules Plain };
 
     /// How many idle steps it can still take.
     ghost left: { Self → ℕ };
 
     /// The step of a message. It adds no more idle steps than a text has bytes at most.
-    fn hear(
+    fn hear<C: Ledger>(
         &mut self,
         alloc: Global,
         message: Result<Incoming, DecodeFault>,
+        paced: bool,
+        steps: &mut Steps<C>,
     ) -> Result<Written, NoMem>
-        ensures step { Makes (rules.heard (plain self.old) message) result (plain self.new) }
+        ensures step { Makes ((rules paced).heard (plain self.old) message) result (plain self.new) }
         ensures few { OnOk result (left self.new ≤ left self.old + 1048576) };
 
     /// The step where nothing came.
-    fn idle(&mut self, alloc: Global) -> Result<Written, NoMem>
-        requires { rules.is_ended (plain self.old) ≡ false }
-        ensures step { Makes (rules.idle (plain self.old)) result (plain self.new) }
+    fn idle<C: Ledger>(
+        &mut self,
+        alloc: Global,
+        paced: bool,
+        steps: &mut Steps<C>,
+    ) -> Result<Written, NoMem>
+        requires { (rules paced).is_ended (plain self.old) ≡ false }
+        ensures step { Makes ((rules paced).idle (plain self.old)) result (plain self.new) }
         ensures fewer { OnOk result (left self.new < left self.old) };
 
     /// Whether all that can be done without a message is done.
-    fn all_ended(&self) -> bool
-        ensures { result ≡ rules.is_ended (plain self.now) };
+    fn all_ended(&self, paced: bool) -> bool
+        ensures { result ≡ (rules paced).is_ended (plain self.now) };
 }

@@ -11,10 +11,11 @@ ghost use Rattle.lsp_session.specs.Writes.{Writes};
 use crate::endings::{Exit, Halt};
 use crate::machine::{Machine, Written};
 use crate::write::{write_bodies, write_body};
-use base_core::{NoMem, Sink};
+use base_core::{NoMem, Sink, Steps};
 use lsp_types::{DecodeFault, ErrorCode, Id, Incoming, decode, encode_error};
 use rpc_frames::{FrameStop, Frames};
 use std::alloc::Global;
+use std::sync::ledger::Ledger;
 
 /// What became of the bytes that came.
 #[derive(Clone, Copy, Debug, PartialEq, Eq)]
@@ -49,13 +50,15 @@ pub fn emit<S: Sink>(alloc: Global, out: &mut S, written: &Written) -> Result<Op
 }
 
 /// One message: its step, and what the step gave is written.
-fn hear<S: Sink, M: Machine>(
+fn hear<S: Sink, M: Machine, C: Ledger>(
     alloc: Global,
     machine: &mut M,
+    paced: bool,
     out: &mut S,
     body: &[u8],
+    steps: &mut Steps<C>,
 ) -> Result<Option<Exit>, Halt>
-    ensures does { Does (M.rules.heard (M.plain machine.old) (decoded body.now)) result (M.plain machine.new) (S.written out.old) (S.written out.new) }
+    ensures does { Does ((M.rules paced).heard (M.plain machine.old) (decoded body.now)) result (M.plain machine.new) (S.written out.old) (S.written out.new) }
     ensures few { OnOk result (M.left machine.new ≤ M.left machine.old + 1048576) }
     ensures later { S.faults out.old ≤ S.faults out.new }
     ensures failed { IsErrOf result Halt.SinkFailed → Rose (S.faults out.old) (S.faults out.new) }
@@ -63,7 +66,7 @@ fn hear<S: Sink, M: Machine>(
     let Ok(message) = read_message(alloc, body) else {
         return Err(Halt::NoMem);
     };
-    let Ok(written) = machine.hear(alloc, message) else {
+    let Ok(written) = machine.hear(alloc, message, paced, steps) else {
         return Err(Halt::NoMem);
     };
     emit(alloc, out, &written)
@@ -80,13 +83,15 @@ fn refuse<S: Sink>(alloc: Global, out: &mut S) -> Result<(), Halt>
 }
 
 /// The next message, or what is left where there is none.
-fn next_message<S: Sink, M: Machine>(
+fn next_message<S: Sink, M: Machine, C: Ledger>(
     alloc: Global,
     machine: &mut M,
+    paced: bool,
     reader: &mut Frames,
     out: &mut S,
+    steps: &mut Steps<C>,
 ) -> Result<Option<Drained>, Halt>
-    ensures goes { (taken : ℕ) → Goes (λ s p t. all_heard M.rules taken (frames p) s t) taken (all_heard M.rules taken (frames reader.old.bytes) (M.plain machine.old) (S.written out.old)) result (M.plain machine.new) reader.new.bytes (S.written out.old) (S.written out.new) }
+    ensures goes { (taken : ℕ) → Goes (λ s p t. all_heard (M.rules paced) taken (frames p) s t) taken (all_heard (M.rules paced) taken (frames reader.old.bytes) (M.plain machine.old) (S.written out.old)) result (M.plain machine.new) reader.new.bytes (S.written out.old) (S.written out.new) }
     ensures shorter { result ≡ Ok None → length reader.new.bytes < length reader.old.bytes }
     ensures few { OnOk result (weight_held (length reader.new.bytes) (M.left machine.new) ≤ weight_held (length reader.old.bytes) (M.left machine.old)) }
     ensures later { S.faults out.old ≤ S.faults out.new }
@@ -94,7 +99,7 @@ fn next_message<S: Sink, M: Machine>(
 {
     match reader.next(alloc) {
         Ok(None) => Ok(Some(Drained::Rest)),
-        Ok(Some(body)) => match hear(alloc, machine, out, body.as_slice()) {
+        Ok(Some(body)) => match hear(alloc, machine, paced, out, body.as_slice(), steps) {
             Ok(None) => Ok(None),
             Ok(Some(exit)) => Ok(Some(Drained::Exit(exit))),
             Err(halt) => Err(halt),
@@ -108,19 +113,21 @@ fn next_message<S: Sink, M: Machine>(
 }
 
 /// Each message of the bytes that came, in order.
-pub fn drain<S: Sink, M: Machine>(
+pub fn drain<S: Sink, M: Machine, C: Ledger>(
     alloc: Global,
     machine: &mut M,
+    paced: bool,
     reader: &mut Frames,
     out: &mut S,
+    steps: &mut Steps<C>,
 ) -> Result<Drained, Halt>
-    ensures drains { (taken : ℕ) → Drains taken (all_heard M.rules taken (frames reader.old.bytes) (M.plain machine.old) (S.written out.old)) result (M.plain machine.new) reader.new.bytes (S.written out.old) (S.written out.new) }
+    ensures drains { (taken : ℕ) → Drains taken (all_heard (M.rules paced) taken (frames reader.old.bytes) (M.plain machine.old) (S.written out.old)) result (M.plain machine.new) reader.new.bytes (S.written out.old) (S.written out.new) }
     ensures few { OnOk result (weight_held (length reader.new.bytes) (M.left machine.new) ≤ weight_held (length reader.old.bytes) (M.left machine.old)) }
     ensures later { S.faults out.old ≤ S.faults out.new }
     ensures failed { IsErrOf result Halt.SinkFailed → Rose (S.faults out.old) (S.faults out.new) }
 {
     loop {
-        match next_message(alloc, machine, reader, out) {
+        match next_message(alloc, machine, paced, reader, out, steps) {
             Ok(None) => {}
             Ok(Some(last)) => return Ok(last),
             Err(halt) => return Err(halt),

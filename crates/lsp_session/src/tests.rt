@@ -1,13 +1,15 @@
 //! Sessions over a link and a sink in memory.
-ghost use Rattle.std.specs.Prelude.{◌≡◌, ◌==◌, ◌-◌, ℕ, true, false, None, Some, Ok, Err, IfOk, [], ◌∷◌, if◌then◌else◌};
+ghost use Rattle.std.specs.Prelude.{◌≡◌, ◌==◌, ◌-◌, ◌<◌, ℕ, true, false, None, Some, Ok, Err, IfOk, [], ◌∷◌, if◌then◌else◌};
 ghost use Rattle.lsp_types.specs.declared.messages.Incoming.TheVariants as incoming;
 ghost use Rattle.lsp_types.specs.declared.messages.Note.TheVariants as note;
 ghost use Rattle.lsp_session.specs.declared.endings.Exit.TheVariants.{Clean, Early};
 
 use crate::{BytesList, Exit, Machine, Written, serve};
-use base_core::{Bytes, Item, ItemList, Link, MemSink, NoMem, NumberList, ScriptLink};
+use base_core::{Bytes, Item, ItemList, Link, MemSink, NoMem, NumberList, ScriptLink, Steps};
 use lsp_types::{DecodeFault, Incoming, Note};
 use std::alloc::Global;
+use std::marker::Brand;
+use std::sync::ledger::{Blank, Ledger};
 use std::test::Fail;
 
 /// A machine that gives one body for each message, then two for idle steps, and ends at `exit`:
@@ -36,7 +38,7 @@ impl Machine for Counter {
 
     ghost plain = { λ s. s.left };
 
-    ghost rules = { record {
+    ghost rules = { λ _. record {
       heard = λ left message. if (elim message [ Ok (incoming.Note note.Exit) ↦ true | _ ↦ false ]) then record { state = left; bodies = []; exit = Some (if left == 0 then Clean else Early) } else record { state = 2; bodies = (123 ∷ 125 ∷ []) ∷ []; exit = None };
       idle = λ left. record { state = left - 1; bodies = (45 ∷ []) ∷ []; exit = None };
       is_ended = λ left. left == 0;
@@ -44,10 +46,12 @@ impl Machine for Counter {
 
     ghost left = { λ s. s.left };
 
-    fn hear(
+    fn hear<C: Ledger>(
         &mut self,
         alloc: Global,
         message: Result<Incoming, DecodeFault>,
+        _paced: bool,
+        _steps: &mut Steps<C>,
     ) -> Result<Written, NoMem> {
         if is_exit(&message) {
             let exit = if self.left == 0 {
@@ -65,12 +69,17 @@ impl Machine for Counter {
         one_body(alloc, b"{}")
     }
 
-    fn idle(&mut self, alloc: Global) -> Result<Written, NoMem> {
+    fn idle<C: Ledger>(
+        &mut self,
+        alloc: Global,
+        _paced: bool,
+        _steps: &mut Steps<C>,
+    ) -> Result<Written, NoMem> {
         self.left -= 1;
         one_body(alloc, b"-")
     }
 
-    fn all_ended(&self) -> bool {
+    fn all_ended(&self, _paced: bool) -> bool {
         self.left == 0
     }
 }
@@ -105,19 +114,25 @@ fn script(alloc: Global, words: &[&str], cut: bool) -> Result<ItemList, NoMem> {
 }
 
 /// The status of a session and what it wrote.
-fn outcome(
+fn outcome<C: Ledger>(
     alloc: Global,
     items: ItemList,
     paced: bool,
     polls: usize,
     sink: (usize, u32),
-) -> Result<(u8, Vec<u8>), NoMem> {
+    blank: Blank,
+) -> Result<(u8, Vec<u8>), NoMem>
+    requires name { blank.name ≡ C.name }
+    requires parts { blank.parts ≡ C.parts }
+    requires some { 0 < C.parts }
+{
     let mut link = ScriptLink::new(alloc, items, polls)?;
     let mut fails = NumberList::new(alloc);
     fails.push(sink.1)?;
     let mut out = MemSink::new(alloc, sink.0, fails)?;
     let mut machine = Counter { left: 0 };
-    let status = serve(alloc, &mut link, &mut out, paced, &mut machine);
+    let mut steps: Steps<C> = Steps::new(blank);
+    let status = serve(alloc, &mut link, &mut out, paced, &mut machine, &mut steps);
     Ok((status, out.written().to_vec(alloc)?))
 }
 
@@ -174,7 +189,14 @@ fn rows_are_written(rt: HostRuntime) -> Result<(), Fail> {
     for (words, paced, status, parts) in ROWS {
         let written = joined(alloc, parts)?;
         for cut in [false, true] {
-            let got = outcome(alloc, script(alloc, words, cut)?, paced, 1000, (1000, 0))?;
+            let got = outcome::<Brand>(
+                alloc,
+                script(alloc, words, cut)?,
+                paced,
+                1000,
+                (1000, 0),
+                Blank::new(1),
+            )?;
             assert_eq!(rt; got.0, status, "at {words:?}");
             assert_eq!(rt; got.1.as_slice(), written.as_slice(), "at {words:?}");
         }
@@ -188,7 +210,7 @@ fn messages_in_one_piece(rt: HostRuntime) -> Result<(), Fail> {
     let mut items = ItemList::new(alloc);
     let bytes = joined(alloc, &[NOTE, NOTE, EXIT, NOTE])?;
     items.push(Item::Piece(Bytes::from_vec(bytes)))?;
-    let got = outcome(alloc, items, false, 10, (1000, 0))?;
+    let got = outcome::<Brand>(alloc, items, false, 10, (1000, 0), Blank::new(1))?;
     assert_eq!(rt; got.0, 1);
     assert_eq!(rt;
         got.1.as_slice(),
@@ -203,12 +225,13 @@ fn what_fails_leaves_a_first_part(rt: HostRuntime) -> Result<(), Fail> {
     let words = [NOTE, "idle", "idle", NOTE, EXIT];
     let parts = [HEARD, WAITED, WAITED, HEARD];
     for count in 0..4u32 {
-        let got = outcome(
+        let got = outcome::<Brand>(
             alloc,
             script(alloc, &words, false)?,
             false,
             1000,
             (1000, count + 1),
+            Blank::new(1),
         )?;
         assert_eq!(rt; got.0, 5, "at {count}");
         assert_eq!(rt;
@@ -219,11 +242,25 @@ fn what_fails_leaves_a_first_part(rt: HostRuntime) -> Result<(), Fail> {
     }
     let whole = joined(alloc, &parts)?;
     for room in 0..whole.len() {
-        let got = outcome(alloc, script(alloc, &words, false)?, false, 1000, (room, 0))?;
+        let got = outcome::<Brand>(
+            alloc,
+            script(alloc, &words, false)?,
+            false,
+            1000,
+            (room, 0),
+            Blank::new(1),
+        )?;
         assert_eq!(rt; got.0, 5, "at {room}");
         assert_eq!(rt; got.1.as_slice(), &whole[..room], "at {room}");
     }
-    let got = outcome(alloc, script(alloc, &words, false)?, false, 2, (1000, 0))?;
+    let got = outcome::<Brand>(
+        alloc,
+        script(alloc, &words, false)?,
+        false,
+        2,
+        (1000, 0),
+        Blank::new(1),
+    )?;
     assert_eq!(rt; got.0, 3);
     assert_eq!(rt;
         got.1.as_slice(),

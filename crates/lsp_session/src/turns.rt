@@ -9,9 +9,10 @@ ghost use Rattle.lsp_session.specs.Calls.{Does, Drains, Turns, after_bytes, afte
 use crate::endings::{Ending, Exit, Halt};
 use crate::machine::Machine;
 use crate::messages::{Drained, drain, emit};
-use base_core::{Link, Sink, Taken};
+use base_core::{Link, Sink, Steps, Taken};
 use rpc_frames::Frames;
 use std::alloc::Global;
+use std::sync::ledger::Ledger;
 
 /// How many bytes a session takes at most.
 pub const BYTE_LIMIT: u64 = 1_099_511_627_776;
@@ -30,37 +31,41 @@ pub enum Turn {
 }
 
 /// Takes the bytes of a poll, and hears each message that they complete.
-fn take_in<S: Sink, M: Machine>(
+fn take_in<S: Sink, M: Machine, C: Ledger>(
     alloc: Global,
     machine: &mut M,
+    paced: bool,
     reader: &mut Frames,
     out: &mut S,
     piece: &[u8],
+    steps: &mut Steps<C>,
 ) -> Result<Drained, Halt>
-    ensures drains { (taken : ℕ) → Drains taken (all_heard M.rules taken (frames (reader.old.bytes ++ piece.now)) (M.plain machine.old) (S.written out.old)) result (M.plain machine.new) reader.new.bytes (S.written out.old) (S.written out.new) }
+    ensures drains { (taken : ℕ) → Drains taken (all_heard (M.rules paced) taken (frames (reader.old.bytes ++ piece.now)) (M.plain machine.old) (S.written out.old)) result (M.plain machine.new) reader.new.bytes (S.written out.old) (S.written out.new) }
     ensures few { OnOk result (weight_held (length reader.new.bytes) (M.left machine.new) ≤ weight_held (length reader.old.bytes + length piece.now) (M.left machine.old)) }
     ensures later { S.faults out.old ≤ S.faults out.new }
     ensures failed { IsErrOf result Halt.SinkFailed → Rose (S.faults out.old) (S.faults out.new) }
 {
     match reader.feed(piece) {
-        Ok(()) => drain(alloc, machine, reader, out),
+        Ok(()) => drain(alloc, machine, paced, reader, out, steps),
         Err(_) => Err(Halt::NoMem),
     }
 }
 
 /// The step where nothing came.
-fn idle<S: Sink, M: Machine>(
+fn idle<S: Sink, M: Machine, C: Ledger>(
     alloc: Global,
     machine: &mut M,
+    paced: bool,
     out: &mut S,
+    steps: &mut Steps<C>,
 ) -> Result<Option<Exit>, Halt>
-    requires { M.rules.is_ended (M.plain machine.old) ≡ false }
-    ensures does { Does (M.rules.idle (M.plain machine.old)) result (M.plain machine.new) (S.written out.old) (S.written out.new) }
+    requires { (M.rules paced).is_ended (M.plain machine.old) ≡ false }
+    ensures does { Does ((M.rules paced).idle (M.plain machine.old)) result (M.plain machine.new) (S.written out.old) (S.written out.new) }
     ensures fewer { OnOk result (M.left machine.new < M.left machine.old) }
     ensures later { S.faults out.old ≤ S.faults out.new }
     ensures failed { IsErrOf result Halt.SinkFailed → Rose (S.faults out.old) (S.faults out.new) }
 {
-    match machine.idle(alloc) {
+    match machine.idle(alloc, paced, steps) {
         Ok(written) => emit(alloc, out, &written),
         Err(_) => Err(Halt::NoMem),
     }
@@ -97,13 +102,13 @@ fn after_idle(exit: Option<Exit>) -> Turn
 
 /// Whether the next poll waits.
 fn waits<M: Machine>(paced: bool, machine: &M) -> bool
-    ensures { result ≡ (paced || M.rules.is_ended (M.plain machine.now)) }
+    ensures { result ≡ (paced || (M.rules paced).is_ended (M.plain machine.now)) }
 {
-    paced || machine.all_ended()
+    paced || machine.all_ended(paced)
 }
 
 /// One poll, and all that it brings: of what came each message, or else an idle step.
-pub fn take_turn<L: Link, S: Sink, M: Machine>(
+pub fn take_turn<L: Link, S: Sink, M: Machine, C: Ledger>(
     alloc: Global,
     link: &mut L,
     out: &mut S,
@@ -112,10 +117,11 @@ pub fn take_turn<L: Link, S: Sink, M: Machine>(
     reader: &mut Frames,
     taken: &mut u64,
     buf: &mut [u8],
+    steps: &mut Steps<C>,
 ) -> Result<Turn, Halt>
     requires few { taken.old < byte_limit }
     requires room { length buf.old ≡ most_asked taken.old }
-    ensures turns { Turns M.rules paced (Going (M.plain machine.old) reader.old.bytes taken.old (S.written out.old)) result (M.plain machine.new) reader.new.bytes taken.new (S.written out.old) (S.written out.new) (L.polls link.old) (L.polls link.new) }
+    ensures turns { Turns (M.rules paced) paced (Going (M.plain machine.old) reader.old.bytes taken.old (S.written out.old)) result (M.plain machine.new) reader.new.bytes taken.new (S.written out.old) (S.written out.new) (L.polls link.old) (L.polls link.new) }
     ensures lighter { result ≡ Ok Turn.On → weight taken.new (length reader.new.bytes) (M.left machine.new) < weight taken.old (length reader.old.bytes) (M.left machine.old) }
     ensures within { taken.new ≤ byte_limit }
     ensures later { S.faults out.old ≤ S.faults out.new }
@@ -128,12 +134,12 @@ pub fn take_turn<L: Link, S: Sink, M: Machine>(
     match link.poll(wait, buf) {
         Taken::Got(count) => {
             *taken += count as u64;
-            match take_in(alloc, machine, reader, out, &buf[..count]) {
+            match take_in(alloc, machine, paced, reader, out, &buf[..count], steps) {
                 Ok(drained) => Ok(after_bytes(drained)),
                 Err(halt) => Err(halt),
             }
         }
-        Taken::Idle => match idle(alloc, machine, out) {
+        Taken::Idle => match idle(alloc, machine, paced, out, steps) {
             Ok(exit) => Ok(after_idle(exit)),
             Err(halt) => Err(halt),
         },

@@ -10,8 +10,8 @@ loop-last-preserved g c =
     let now = g.S.Sink.written c.next_message.new.out in
     let state = m.plain c.next_message.new.machine in
     let bytes = c.next_message.new.reader.bytes in
-    let goes : (taken : ℕ) → Goes (left_of m.rules taken) taken (left_of m.rules taken (m.plain c.loop-last.machine) c.loop-last.reader.bytes told) (Ok None) state bytes told now =
-    λ taken. next_none m.rules taken (left_of m.rules taken (m.plain c.loop-last.machine) c.loop-last.reader.bytes told) c.in-Ok-None.field-0 state bytes told now c.in-Ok-None.field-0-is (c.in-Ok-None.ensures.goes taken) in
+    let goes : (taken : ℕ) → Goes (left_of (m.rules c.args.paced) taken) taken (left_of (m.rules c.args.paced) taken (m.plain c.loop-last.machine) c.loop-last.reader.bytes told) (Ok None) state bytes told now =
+    λ taken. next_none (m.rules c.args.paced) taken (left_of (m.rules c.args.paced) taken (m.plain c.loop-last.machine) c.loop-last.reader.bytes told) c.in-Ok-None.field-0 state bytes told now c.in-Ok-None.field-0-is (c.in-Ok-None.ensures.goes taken) in
     record {
       goes = λ taken. (goes taken).0 ∙ c.loop-last.invariant.goes taken;
       holds = extends_on _ told now c.loop-last.invariant.holds (goes 0).1;
@@ -24,18 +24,18 @@ returns-in-Ok-Some-clause-drains g c = λ taken.
     let m = g.M.Machine in
     let told = g.S.Sink.written c.loop-last.out in
     let now = g.S.Sink.written c.next_message.new.out in
-    let whole = left_of m.rules taken (m.plain c.loop-last.machine) c.loop-last.reader.bytes told in
-    let first = left_of m.rules taken (m.plain c.args.machine.now) c.args.reader.now.bytes (g.S.Sink.written c.args.out.now) in
+    let whole = left_of (m.rules c.args.paced) taken (m.plain c.loop-last.machine) c.loop-last.reader.bytes told in
+    let first = left_of (m.rules c.args.paced) taken (m.plain c.args.machine.now) c.args.reader.now.bytes (g.S.Sink.written c.args.out.now) in
     let state = m.plain c.next_message.new.machine in
     let bytes = c.next_message.new.reader.bytes in
     drains_from taken first whole (Ok c.in-Ok-Some.last) state bytes (g.S.Sink.written c.args.out.now) told now (c.loop-last.invariant.goes taken) c.loop-last.invariant.holds
-    (next_some m.rules taken whole c.in-Ok-Some.field-0 c.in-Ok-Some.last state bytes told now c.in-Ok-Some.field-0-is (c.in-Ok-Some.ensures.goes taken))
+    (next_some (m.rules c.args.paced) taken whole c.in-Ok-Some.field-0 c.in-Ok-Some.last state bytes told now c.in-Ok-Some.field-0-is (c.in-Ok-Some.ensures.goes taken))
 
 pub returns-in-Err-clause-drains : goal.returns-in-Err-clause-drains
 returns-in-Err-clause-drains g c = λ taken.
     let m = g.M.Machine in
     let told = g.S.Sink.written c.loop-last.out in
     let now = g.S.Sink.written c.next_message.new.out in
-    let whole = left_of m.rules taken (m.plain c.loop-last.machine) c.loop-last.reader.bytes told in
-    let first = left_of m.rules taken (m.plain c.args.machine.now) c.args.reader.now.bytes (g.S.Sink.written c.args.out.now) in
+    let whole = left_of (m.rules c.args.paced) taken (m.plain c.loop-last.machine) c.loop-last.reader.bytes told in
+    let first = left_of (m.rules c.args.paced) taken (m.plain c.args.machine.now) c.args.reader.now.bytes (g.S.Sink.written c.args.out.now) in
     drains_from taken first whole (Err c.in-Err.halt) (m.plain c.next_message.new.machine) c.next_message.new.reader.bytes (g.S.Sink.written c.args.out.now) told now (c.loop-last.invariant.goes taken) c.loop-last.invariant.holds (c.in-Err.ensures.goes taken)

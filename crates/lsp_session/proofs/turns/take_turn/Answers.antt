@@ -8,7 +8,7 @@ returns-in-Ok-clause-turns g c =
     let m = g.M.Machine in
     let got = c.in-Got.ensures.told in
     let fits : c.in-Got.count ≤ most_asked c.args.taken.now = omega (arith, got.1, c.poll.auto.buf, c.requires.room) in
-    turned_bytes m.rules c.args.paced (m.plain c.args.machine.now) (m.plain c.take_in.new.machine) c.args.reader.now.bytes c.take_in.new.reader.bytes c.args.taken.now c.in-Got.count
+    turned_bytes (m.rules c.args.paced) c.args.paced (m.plain c.args.machine.now) (m.plain c.take_in.new.machine) c.args.reader.now.bytes c.take_in.new.reader.bytes c.args.taken.now c.in-Got.count
     (g.S.Sink.written c.args.out.now) (g.S.Sink.written c.take_in.new.out) c.waits-wait.result (take c.in-Got.count c.poll.new.buf) c.in-Ok.drained c.after_bytes.result
     (g.L.Link.polls c.args.link.now) (g.L.Link.polls c.poll.new.self)
     c.after_bytes.ensures c.requires.few c.waits-wait.ensures (length_front c.in-Got.count c.poll.new.buf got.1) fits got.2 (c.in-Ok.ensures.drains (c.args.taken.now + c.in-Got.count))
@@ -18,7 +18,7 @@ returns-in-Err-clause-turns g c =
     let m = g.M.Machine in
     let got = c.in-Got.ensures.told in
     let fits : c.in-Got.count ≤ most_asked c.args.taken.now = omega (arith, got.1, c.poll.auto.buf, c.requires.room) in
-    turned_cut m.rules c.args.paced (m.plain c.args.machine.now) (m.plain c.take_in.new.machine) c.args.reader.now.bytes c.take_in.new.reader.bytes c.args.taken.now c.in-Got.count
+    turned_cut (m.rules c.args.paced) c.args.paced (m.plain c.args.machine.now) (m.plain c.take_in.new.machine) c.args.reader.now.bytes c.take_in.new.reader.bytes c.args.taken.now c.in-Got.count
     (g.S.Sink.written c.args.out.now) (g.S.Sink.written c.take_in.new.out) c.waits-wait.result (take c.in-Got.count c.poll.new.buf) c.in-Err.halt
     (g.L.Link.polls c.args.link.now) (g.L.Link.polls c.poll.new.self)
     c.requires.few c.waits-wait.ensures (length_front c.in-Got.count c.poll.new.buf got.1) fits got.2 (c.in-Err.ensures.drains (c.args.taken.now + c.in-Got.count))
@@ -26,7 +26,7 @@ returns-in-Err-clause-turns g c =
 pub returns-in-Err-idle-clause-turns : goal.returns-in-Err-idle-clause-turns
 returns-in-Err-idle-clause-turns g c =
     let m = g.M.Machine in
-    turned_idle_cut m.rules c.args.paced (m.plain c.args.machine.now) (m.plain c.idle.new.machine) c.args.reader.now.bytes c.args.taken.now
+    turned_idle_cut (m.rules c.args.paced) c.args.paced (m.plain c.args.machine.now) (m.plain c.idle.new.machine) c.args.reader.now.bytes c.args.taken.now
     (g.S.Sink.written c.args.out.now) (g.S.Sink.written c.idle.new.out) c.waits-wait.result c.in-Err-idle.halt
     (g.L.Link.polls c.args.link.now) (g.L.Link.polls c.poll.new.self)
     c.requires.few c.waits-wait.ensures c.in-Idle.ensures.told.0 c.in-Idle.ensures.told.1 c.in-Err-idle.ensures.does
