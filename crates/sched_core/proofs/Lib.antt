@@ -1,0 +1,14 @@
+pub mod Floats
+pub mod Few
+pub mod Left
+pub mod Units
+pub mod Lists
+pub mod PhaseLemmas
+pub mod CauseLemmas
+pub mod EndingLemmas
+pub mod StatusLemmas
+pub mod LeavingLemmas
+pub mod GivenLemmas
+pub mod ServedLemmas
+pub mod Made
+pub mod Unbegun

@@ -1,0 +1,35 @@
+-- Steps through lists.
+use Rattle.std.proofs.Common.{◌≡◌, ℕ, suc, ◌+◌, ◌-◌, ◌<◌, ◌≤◌, List, [], ◌∷◌, ◌++◌, map, length, get_or, drop, append_assoc, sym, ◌∙◌, ap, arith}
+use Rattle.std.proofs.Math.Seq.{drop-cons}
+use Rattle.std.proofs.lemmas.List.{map-append}
+use Rattle.serde_json.specs.Data.{Data}
+use Rattle.serde_json.specs.View.{view}
+use Rattle.serde_json.specs.declared.value.Value.{Value}
+use Rattle.base_core.specs.declared.places.Change.{Change}
+use Rattle.prover_iface.specs.declared.diagnostics.RelDiag.{RelDiag}
+use Rattle.sched_core.specs.Bodies.{diag_data}
+use Rattle.sched_core.specs.Documents.{last_text}
+
+last_is : (text : List ℕ) (first : Change) (changes : List Change) (last : Change) → last ≡ get_or (first ∷ changes) (length changes) last → last.text ≡ last_text text (first ∷ changes)
+last_is text first [] last e = ap (λ c. c.text) e
+last_is text first (second ∷ changes) last e = last_is first.text second changes last e
+
+-- the last of some changes makes the text
+pub last_of : (text : List ℕ) (changes : List Change) (last : Change) → 1 ≤ length changes → last ≡ get_or changes (length changes - 1) last → last.text ≡ last_text text changes
+last_of text [] last h e = let none : ⊥ = omega (arith, h) in absurd none
+last_of text (first ∷ changes) last h e =
+    let n : suc (length changes) - 1 ≡ length changes = omega arith in
+    last_is text first changes last (e ∙ ap (λ i. get_or (first ∷ changes) i last) n)
+
+-- one diagnostic more
+pub diags_more : (text : List ℕ) (diags : List RelDiag) (i : ℕ) (diag : RelDiag) (values new : List Value) (value : Value) → i < length diags → diag ≡ get_or diags i diag → new ≡ values ++ value ∷ [] → view value ≡ diag_data text diag → map view values ++ map (diag_data text) (drop i diags) ≡ map (diag_data text) diags → map view new ++ map (diag_data text) (drop (i + 1) diags) ≡ map (diag_data text) diags
+diags_more text diags i diag values new value within is grown seen same =
+    let next : suc i ≡ i + 1 = omega arith in
+    let rest : List Data = map (diag_data text) (drop (i + 1) diags) in
+    let parts : drop i diags ≡ diag ∷ drop (i + 1) diags = drop-cons diags i diag within ∙ ap (λ d. d ∷ drop (suc i) diags) (sym is) ∙ ap (λ n. diag ∷ drop n diags) next in
+    ap (λ vs. map view vs ++ rest) grown
+    ∙ ap (λ ds. ds ++ rest) (map-append view values (value ∷ []))
+    ∙ append_assoc (map view values) (view value ∷ []) rest
+    ∙ ap (λ d. map view values ++ d ∷ rest) seen
+    ∙ ap (λ ds. map view values ++ map (diag_data text) ds) (sym parts)
+    ∙ same
