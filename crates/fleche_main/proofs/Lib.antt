@@ -2,3 +2,4 @@ pub mod Pieces
 pub mod Statuses
 pub mod Texts
 pub mod Lines
+pub mod Asked

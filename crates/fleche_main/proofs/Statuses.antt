@@ -1,16 +1,15 @@
 -- A run answers no other status.
 use Rattle.std.proofs.Common.{Result, Ok, Err, refl, lit<}
 use Rattle.fleche_main.specs.declared.endings.Ending.{Ending}
-use Rattle.fleche_main.specs.declared.endings.Ending.TheVariants.{Clean, NotAForm, Unclean, NotRead, NotText}
+use Rattle.fleche_main.specs.declared.endings.Ending.TheVariants.{Clean, Unclean, NotRead, NotText}
 use Rattle.fleche_main.specs.declared.endings.Halt.{Halt}
 use Rattle.fleche_main.specs.declared.endings.Halt.TheVariants.{NoMem, SinkFailed}
 use Rattle.fleche_main.specs.Status.{result_status, IsStatus}
 
 pub result_status-known : (result : Result Ending Halt) → IsStatus (result_status result)
 result_status-known (Ok Clean) = (0, lit< tt, refl)
-result_status-known (Ok NotAForm) = (1, lit< tt, refl)
-result_status-known (Err NoMem) = (2, lit< tt, refl)
-result_status-known (Err SinkFailed) = (3, lit< tt, refl)
-result_status-known (Ok Unclean) = (4, lit< tt, refl)
-result_status-known (Ok NotRead) = (5, lit< tt, refl)
-result_status-known (Ok NotText) = (6, lit< tt, refl)
+result_status-known (Err NoMem) = (1, lit< tt, refl)
+result_status-known (Err SinkFailed) = (2, lit< tt, refl)
+result_status-known (Ok Unclean) = (3, lit< tt, refl)
+result_status-known (Ok NotRead) = (4, lit< tt, refl)
+result_status-known (Ok NotText) = (5, lit< tt, refl)

@@ -1,13 +1,10 @@
--- How a run ends where memory serves and each put is taken, and what it then writes.
+-- How the check of a file ends where memory serves and each put is taken, and what it then writes.
 use Rattle.std.specs.Prelude.{ℕ, ◌==◌, ◌&&◌, nat_lt, Option, None, Some, List, [], length, if◌then◌else◌}
 use Rattle.std.specs.Str.{is_utf8}
-use Rattle.base_core.specs.declared.mem_files.FileItem.{FileItem}
-use Rattle.base_core.specs.Files.{file_at}
 use Rattle.prover_iface.specs.declared.reports.Report.{Report}
 use Rattle.fleche_main.specs.declared.endings.Ending.{Ending}
-use Rattle.fleche_main.specs.declared.endings.Ending.TheVariants.{Clean, NotAForm, Unclean, NotRead, NotText}
+use Rattle.fleche_main.specs.declared.endings.Ending.TheVariants.{Clean, Unclean, NotRead, NotText}
 use Rattle.fleche_main.specs.Reports.{file_report, error_count, admission_count}
-use Rattle.fleche_main.specs.Words.{file_named}
 
 pub record Outcome : Type 0 where
   pub ending : Ending
@@ -37,11 +34,3 @@ bytes_outcome check name bytes = if is_utf8 bytes then text_outcome check name b
 abbrev pub file_outcome : (List ℕ → Report) → List ℕ → Option (List ℕ) → Outcome
 file_outcome check name None = no_report NotRead
 file_outcome check name (Some bytes) = if nat_lt 1048576 (length bytes) then no_report NotText else bytes_outcome check name bytes
-
-abbrev pub named_outcome : (List ℕ → Report) → List FileItem → Option (List ℕ) → Outcome
-named_outcome check files None = no_report NotAForm
-named_outcome check files (Some name) = file_outcome check name (file_at files name)
-
--- the outcome of the words over these files, by what checking a text gives
-abbrev pub outcome : (List ℕ → Report) → List (List ℕ) → List FileItem → Outcome
-outcome check words files = named_outcome check files (file_named words)

@@ -1,13 +1,12 @@
 -- Exit statuses.
 use Rattle.std.specs.Prelude.{ℕ, Result, Ok, Err, [], ◌∷◌, Contains}
 use Rattle.fleche_main.specs.declared.endings.Ending.{Ending}
-use Rattle.fleche_main.specs.declared.endings.Ending.TheVariants.{Clean, NotAForm, Unclean, NotRead, NotText}
+use Rattle.fleche_main.specs.declared.endings.Ending.TheVariants.{Clean, Unclean, NotRead, NotText}
 use Rattle.fleche_main.specs.declared.endings.Halt.{Halt}
 use Rattle.fleche_main.specs.declared.endings.Halt.TheVariants.{NoMem, SinkFailed}
 
 abbrev pub status_of : Ending → ℕ
 status_of Clean = 0
-status_of NotAForm = 2
 status_of Unclean = 8
 status_of NotRead = 9
 status_of NotText = 11
@@ -20,4 +19,4 @@ result_status (Err SinkFailed) = 5
 
 -- no other status is answered
 abbrev pub IsStatus : ℕ → Type 0
-IsStatus status = Contains (0 ∷ 2 ∷ 4 ∷ 5 ∷ 8 ∷ 9 ∷ 11 ∷ []) status
+IsStatus status = Contains (0 ∷ 4 ∷ 5 ∷ 8 ∷ 9 ∷ 11 ∷ []) status

@@ -20,7 +20,6 @@ use utf16_doc::{Doc, DocStop};
 /// Clean where there is no error and no admission.
 fn ending_of(report: &Report) -> Ending
     ensures value { result ≡ ending_of report.now }
-    ensures formed { result ≢ Ending.NotAForm }
     ensures read { result ≢ Ending.NotRead }
 {
     if error_count(report.diags.as_slice()) == 0
@@ -43,7 +42,6 @@ fn report_text<S: Sink, P: Prover, C: Ledger>(
 ) -> Result<Ending, Halt>
     ensures told { EndsAs (text_outcome (λ text. checked P.first P.after P.diagnosed P.opened P.outline_of text) name.now doc.now) result (S.written out.old) (S.written out.new) }
     ensures failed { IsErrOf result Halt.SinkFailed → Rose (S.faults out.old) (S.faults out.new) }
-    ensures formed { IfOk result (λ ending. ending ≢ Ending.NotAForm) }
     ensures read { IfOk result (λ ending. ending ≢ Ending.NotRead) }
 {
     let report = check_text(alloc, prover, doc.text(), steps)?;
@@ -64,7 +62,6 @@ fn check_bytes<S: Sink, P: Prover, C: Ledger>(
     requires { length bytes.now ≤ 1048576 }
     ensures told { EndsAs (bytes_outcome (λ text. checked P.first P.after P.diagnosed P.opened P.outline_of text) name.now bytes.now) result (S.written out.old) (S.written out.new) }
     ensures failed { IsErrOf result Halt.SinkFailed → Rose (S.faults out.old) (S.faults out.new) }
-    ensures formed { IfOk result (λ ending. ending ≢ Ending.NotAForm) }
     ensures read { IfOk result (λ ending. ending ≢ Ending.NotRead) }
 {
     let Ok(text) = str::from_utf8(bytes) else {
@@ -88,7 +85,6 @@ pub fn check_file<S: Sink, F: FileSet, P: Prover, C: Ledger>(
 ) -> Result<Ending, Halt>
     ensures told { IfSome (F.content files.old) (λ listed. EndsAs (file_outcome (λ text. checked P.first P.after P.diagnosed P.opened P.outline_of text) name.now (file_at listed name.now)) result (S.written out.old) (S.written out.new)) }
     ensures failed { IsErrOf result Halt.SinkFailed → Rose (S.faults out.old) (S.faults out.new) }
-    ensures formed { IfOk result (λ ending. ending ≢ Ending.NotAForm) }
     ensures not_read { result ≡ Ok Ending.NotRead → Rose (F.faults files.old) (F.faults files.new) }
 {
     match files.read(alloc, name) {

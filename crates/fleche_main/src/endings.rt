@@ -1,17 +1,15 @@
-ghost use Rattle.std.specs.Prelude.{◌≡◌, ◌↔◌, Ok};
+ghost use Rattle.std.specs.Prelude.{◌≡◌};
 ghost use Rattle.fleche_main.specs.Status.{result_status, IsStatus};
 
 use base_core::NoMem;
 use std::alloc::AllocError;
 use thiserror::Error;
 
-/// How a run ends where memory serves and each put is taken.
+/// How the check of a file ends where memory serves and each put is taken.
 #[derive(Clone, Copy, Debug, PartialEq, Eq)]
 pub enum Ending {
     /// All files were reported, without an error or an admission.
     Clean,
-    /// The words are no form.
-    NotAForm,
     /// All files were reported, and some have an error or an admission.
     Unclean,
     /// A file was not read.
@@ -54,12 +52,10 @@ impl From<AllocError> for Halt {
 /// The exit status.
 pub fn number(end: Result<Ending, Halt>) -> u8
     ensures value { result ≡ result_status end }
-    ensures form { (result ≡ 2) ↔ (end ≡ Ok Ending.NotAForm) }
     ensures known { IsStatus result }
 {
     match end {
         Ok(Ending::Clean) => 0,
-        Ok(Ending::NotAForm) => 2,
         Err(Halt::NoMem) => 4,
         Err(Halt::SinkFailed) => 5,
         Ok(Ending::Unclean) => 8,

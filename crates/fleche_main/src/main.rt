@@ -1,5 +1,5 @@
-//! Checks files of proof documents: `check FILE` writes what a file declares and which of its
-//! sentences are refused.
+//! Checks proof documents: `check FILE` writes what a file declares and which of its sentences are
+//! refused, and `serve` does so for an editor while they are written.
 #![tactic(auto)]
 
 ghost use Rattle.std.specs.Prelude.{◌≡◌, ◌<◌};
@@ -11,7 +11,7 @@ mod run;
 mod words;
 mod write;
 
-use base_core::{DirFiles, FileSet, Sink, StdSink, Steps};
+use base_core::{DirFiles, FileSet, Link, Sink, StdLink, StdSink, Steps};
 use std::alloc::Global;
 use std::env;
 use std::io::ErrorKind;
@@ -20,7 +20,7 @@ use std::process::ExitCode;
 use std::rt::{Env, Files};
 use std::sync::ledger::{Blank, Ledger};
 
-const USAGE: &str = "usage: fleche check FILE\n";
+const USAGE: &str = "usage: fleche serve [--paced] | check FILE\n";
 
 /// The words of the command line behind the program's name. One that isn't UTF-8 makes them no form.
 fn command_line<R: Env + AllocGlobal>(rt: &R) -> Result<Vec<String>, u8> {
@@ -36,9 +36,10 @@ fn command_line<R: Env + AllocGlobal>(rt: &R) -> Result<Vec<String>, u8> {
 }
 
 /// Runs the words over a ledger of its own, which counts the work.
-fn counted<C: Ledger, S: Sink, F: FileSet>(
+fn counted<C: Ledger, L: Link, S: Sink, F: FileSet>(
     alloc: Global,
     words: &[String],
+    link: &mut L,
     out: &mut S,
     files: &mut F,
     blank: Blank,
@@ -48,22 +49,29 @@ fn counted<C: Ledger, S: Sink, F: FileSet>(
     requires some { 0 < C.parts }
 {
     let mut steps: Steps<C> = Steps::new(blank);
-    run::run(alloc, words, out, files, &mut steps)
+    run::run(alloc, words, link, out, files, &mut steps)
+}
+
+/// The exit status of the words over standard input, standard output and files.
+fn status_of(rt: &HostRuntime, words: &[String]) -> u8 {
+    let Ok(mut link) = StdLink::new(rt, rt.alloc()) else {
+        return 4;
+    };
+    let mut out = StdSink::new(rt);
+    let mut files = DirFiles::new(rt);
+    counted::<Brand, _, _, _>(
+        rt.alloc(),
+        words,
+        &mut link,
+        &mut out,
+        &mut files,
+        Blank::new(1),
+    )
 }
 
 fn main(rt: HostRuntime) -> ExitCode {
     let status = match command_line(&rt) {
-        Ok(words) => {
-            let mut out = StdSink::new(&rt);
-            let mut files = DirFiles::new(&rt);
-            counted::<Brand, _, _>(
-                rt.alloc(),
-                words.as_slice(),
-                &mut out,
-                &mut files,
-                Blank::new(1),
-            )
-        }
+        Ok(words) => status_of(&rt, words.as_slice()),
         Err(status) => status,
     };
     if status == 2 {

@@ -1,38 +1,49 @@
-ghost use Rattle.std.specs.Prelude.{◌≡◌, ◌↔◌, None, map, string_bytes, IfSome};
+ghost use Rattle.std.specs.Prelude.{◌≡◌, ◌↔◌, ℕ, List, Bool, map, string_bytes, IfSome};
 ghost use Rattle.base_core.specs.Faults.{Rose};
-ghost use Rattle.fleche_main.specs.Words.{file_named};
-ghost use Rattle.fleche_main.specs.Outcome.{outcome};
-ghost use Rattle.fleche_main.specs.Run.{Ends, document_report};
-ghost use Rattle.fleche_main.specs.Status.{IsStatus};
+ghost use Rattle.base_core.specs.Files.{file_at};
+ghost use Rattle.fleche_main.specs.Words.{form_of, NoForm, Document, Session};
+ghost use Rattle.fleche_main.specs.Outcome.{file_outcome};
+ghost use Rattle.fleche_main.specs.Run.{Ends, document_report, IsSession, HasStatus};
 
 use crate::checks::check_file;
 use crate::endings::number;
-use crate::words::file_named;
-use base_core::{FileSet, Sink, Steps};
+use crate::words::{file_named, session_named};
+use base_core::{FileSet, Link, Sink, Steps};
 use cic_prover::CicProver;
+use sched_core::serve;
 use std::alloc::Global;
 use std::sync::ledger::Ledger;
 
 /// Runs the words of a command line, and answers the exit status.
-pub fn run<S: Sink, F: FileSet, C: Ledger>(
+pub fn run<L: Link, S: Sink, F: FileSet, C: Ledger>(
     alloc: Global,
     words: &[String],
+    link: &mut L,
     out: &mut S,
     files: &mut F,
     steps: &mut Steps<C>,
 ) -> u8
-    // 2 comes exactly where the words are no form, and then nothing is read or written.
-    ensures form { (result ≡ 2) ↔ (file_named (map string_bytes words.now) ≡ None) }
-    ensures no_form { result ≡ 2 → (out.new ≡ out.old) × (files.new ≡ files.old) }
+    // 2 comes exactly where the words are no form, and then nothing is polled, read or written.
+    ensures form { (result ≡ 2) ↔ (form_of (map string_bytes words.now) ≡ NoForm) }
+    ensures no_form { result ≡ 2 → (link.new ≡ link.old) × (out.new ≡ out.old) × (files.new ≡ files.old) }
 
-    // Where the files are told, it ends and writes as the words and the files decide.
-    ensures told { IfSome (F.content files.old) (λ listed. Ends (outcome document_report (map string_bytes words.now) listed) result (S.written out.old) (S.written out.new)) }
+    // A file is checked: where the files are told, it ends and writes as the file decides.
+    ensures check { (name : List ℕ) → form_of (map string_bytes words.now) ≡ Document name → IfSome (F.content files.old) (λ listed. Ends (file_outcome document_report name (file_at listed name)) result (S.written out.old) (S.written out.new)) }
+    ensures no_poll { (name : List ℕ) → form_of (map string_bytes words.now) ≡ Document name → link.new ≡ link.old }
 
-    // 5 and 9 come only where the sink or the files count a fault more.
+    // A session: where link and sink tell, what is written is what the plain session writes.
+    ensures serve { (paced : Bool) → form_of (map string_bytes words.now) ≡ Session paced → IsSession paced result (S.written out.old) (S.written out.new) (L.polls link.old) (L.polls link.new) }
+    ensures no_read { (paced : Bool) → form_of (map string_bytes words.now) ≡ Session paced → files.new ≡ files.old }
+
+    // 3, 5 and 9 come only where the link, the sink or the files count a fault more.
+    ensures link { result ≡ 3 → Rose (L.faults link.old) (L.faults link.new) }
     ensures sink { result ≡ 5 → Rose (S.faults out.old) (S.faults out.new) }
     ensures not_read { result ≡ 9 → Rose (F.faults files.old) (F.faults files.new) }
-    ensures known { IsStatus result }
+    ensures statuses { HasStatus (form_of (map string_bytes words.now)) result }
 {
+    if let Some(paced) = session_named(words) {
+        return serve(alloc, link, out, paced, CicProver::new(), steps);
+    }
     match file_named(words) {
         Some(name) => number(check_file(alloc, &CicProver::new(), name, out, files, steps)),
         None => 2,

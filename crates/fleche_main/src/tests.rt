@@ -2,6 +2,8 @@
 
 mod documents;
 mod ground;
+mod links;
 mod provers;
 mod rows;
+mod sessions;
 mod texts;

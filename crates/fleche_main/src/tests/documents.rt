@@ -3,6 +3,7 @@ ghost use Rattle.std.specs.Prelude.{◌≡◌, ◌<◌};
 use base_core::{NoMem, Steps};
 use cic_prover::CicProver;
 use doc_check::DocCheck;
+use prover_iface::Prover;
 use std::alloc::Global;
 use std::marker::Brand;
 use std::sync::ledger::{Blank, Ledger};
@@ -22,13 +23,14 @@ fn finished<C: Ledger>(
     let text = "Axiom A : Prop. - Axiom A : Set.";
     let mut steps: Steps<C> = Steps::new(blank);
     let prover = CicProver::new();
-    let mut document = match DocCheck::new(alloc, text, &prover, &mut steps) {
+    let first = prover.initial(alloc, &mut steps)?;
+    let mut document = match DocCheck::new(alloc, text, &prover, &first) {
         Ok(document) => document,
         Err(_) => return Err(NoMem),
     };
     for _ in 0..count {
         if !document.is_ended() {
-            document.advance(alloc, &prover, &mut steps)?;
+            document.advance(alloc, &prover, 1_000_001, &mut steps)?;
         }
     }
     if !document.is_ended() {

@@ -1,5 +1,7 @@
 use crate::counted;
-use base_core::{Bytes, FileItem, FileList, MemFiles, MemSink, NoMem, NumberList, Text};
+use base_core::{
+    Bytes, FileItem, FileList, ItemList, MemFiles, MemSink, NoMem, NumberList, ScriptLink, Text,
+};
 use std::alloc::Global;
 use std::marker::Brand;
 use std::sync::ledger::Blank;
@@ -26,7 +28,15 @@ fn outcome_over(
         content,
     })?;
     let mut files = MemFiles::new(listed);
-    let status = counted::<Brand, _, _>(alloc, all.as_slice(), &mut out, &mut files, Blank::new(1));
+    let mut link = ScriptLink::new(alloc, ItemList::new(alloc), 0)?;
+    let status = counted::<Brand, _, _, _>(
+        alloc,
+        all.as_slice(),
+        &mut link,
+        &mut out,
+        &mut files,
+        Blank::new(1),
+    );
     Ok((status, out.written().to_vec(alloc)?))
 }
 
