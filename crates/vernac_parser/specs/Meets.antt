@@ -33,6 +33,10 @@ IsAnswer tokens (Err f) = IsRefused tokens f
 abbrev pub AnswersMeet : Type 0
 AnswersMeet = (tokens : List Token) → IsAnswer tokens (whole_term tokens)
 
+-- and at most one, since the clauses on it leave nothing open
+abbrev pub OneAnswer : Type 0
+OneAnswer = (tokens : List Token) (a b : Outcome Term) → IsAnswer tokens a → IsAnswer tokens b → a ≡ b
+
 -- a token list has at most one tree
 abbrev pub OneTree : Type 0
 OneTree = OneTreeOf IsTermOf

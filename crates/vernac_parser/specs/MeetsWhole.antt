@@ -2,6 +2,7 @@
 use Rattle.std.specs.Prelude.{◌≡◌, ◌⊎◌, Option, None, Ok, Err, List, []}
 use Rattle.coq_syntax.specs.declared.token.Token.{Token}
 use Rattle.coq_syntax.specs.Faults.{Fault}
+use Rattle.coq_syntax.specs.CommandTrees.{Command}
 use Rattle.coq_syntax.specs.Commands.{IsCommandOf, command_fault}
 use Rattle.vernac_parser.specs.Parser.{Outcome, Parser, unexpected}
 use Rattle.vernac_parser.specs.Refusals.{OneTreeOf, IsUnexpected, IsLimit}
@@ -24,6 +25,10 @@ module _ {A : Type 0} (Is : List Token → A → Type 0) (fault_of : A → Optio
 -- every list gets such an answer by the rules of commands
 abbrev pub CommandAnswersMeet : Type 0
 CommandAnswersMeet = WholeAnswersMeet IsCommandOf command_fault whole_command
+
+-- and at most one, since the clauses on it leave nothing open
+abbrev pub OneCommandAnswer : Type 0
+OneCommandAnswer = (tokens : List Token) (a b : Outcome Command) → IsWholeAnswer IsCommandOf command_fault tokens a → IsWholeAnswer IsCommandOf command_fault tokens b → a ≡ b
 
 -- a token list has at most one command
 abbrev pub OneCommand : Type 0
