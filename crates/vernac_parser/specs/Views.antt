@@ -6,12 +6,16 @@ use Rattle.coq_syntax.specs.declared.tree.Argument.TheVariants.{Positional, Give
 use Rattle.coq_syntax.specs.Trees.{Term}
 use Rattle.vernac_parser.specs.declared.rule.Rule.{Rule}
 use Rattle.vernac_parser.specs.Parser.{Parser}
-use Rattle.vernac_parser.specs.Parse.{standard, nested}
+use Rattle.vernac_parser.specs.Parse.{Checks, standard, nested}
 use Rattle.vernac_parser.specs.Parse as parse
 
 -- the nested rules, where so many more may nest
 abbrev pub within : ℕ → Rule → Parser Term
 within limit = nested standard limit
+
+-- a rule with these
+abbrev pub with_limit : {B : Type 0} → ℕ → (Checks → (Rule → Parser Term) → B) → B
+with_limit limit rule = rule standard (within limit)
 
 abbrev pub argument_of : Argument → parse.Argument
 argument_of (Positional t) = parse.Plain t.value

@@ -2,7 +2,7 @@
 
 ghost use Rattle.std.specs.Prelude.{◌≡◌};
 ghost use Rattle.vernac_parser.specs.Parse as spec;
-ghost use Rattle.vernac_parser.specs.Views.{within, argument_of};
+ghost use Rattle.vernac_parser.specs.Views.{with_limit, argument_of};
 ghost use Rattle.vernac_parser.specs.Reads.{Reads, ReadsAs};
 ghost use Rattle.vernac_parser.specs.Nests.{Nests};
 ghost use Rattle.coq_syntax.specs.Nodes.{arguments_of};
@@ -19,7 +19,7 @@ impl<F: Fn(Global, &mut Tokens<'_>, usize, Rule) -> Result<SurfaceTerm, Halt>> G
     #[tactic(auto, unfolding(crate::specs::Parse::type_sort))]
     fn type_sort(&self, tokens: &mut Tokens<'_>) -> Result<SurfaceTerm, Halt>
         requires { Nests self.now.limit (F.pre self.now.nested) (F.post self.now.nested) }
-        ensures { Reads (spec.type_sort spec.standard (within self.now.limit) tokens.old) result tokens.new }
+        ensures { Reads (with_limit self.now.limit spec.type_sort tokens.old) result tokens.new }
     {
         let keyword = tokens.take(Sign::TypeSort)?;
         if !tokens.sees(Sign::At) {
@@ -46,7 +46,7 @@ impl<F: Fn(Global, &mut Tokens<'_>, usize, Rule) -> Result<SurfaceTerm, Halt>> G
         opening: TokenPlace,
     ) -> Result<SurfaceTerm, Halt>
         requires { Nests self.now.limit (F.pre self.now.nested) (F.post self.now.nested) }
-        ensures { Reads (spec.parenthesized spec.standard (within self.now.limit) opening tokens.old) result tokens.new }
+        ensures { Reads (with_limit self.now.limit spec.parenthesized opening tokens.old) result tokens.new }
     {
         let inner = Box::new(self.alloc, self.inner(tokens, Rule::Whole)?)?;
         let closing = tokens.take(Sign::Close)?;
@@ -61,7 +61,7 @@ impl<F: Fn(Global, &mut Tokens<'_>, usize, Rule) -> Result<SurfaceTerm, Halt>> G
     #[tactic(auto, unfolding(crate::specs::Parse::given))]
     fn given(&self, tokens: &mut Tokens<'_>, opening: TokenPlace) -> Result<Argument, Halt>
         requires { Nests self.now.limit (F.pre self.now.nested) (F.post self.now.nested) }
-        ensures { ReadsAs argument_of (spec.given spec.standard (within self.now.limit) opening tokens.old) result tokens.new }
+        ensures { ReadsAs argument_of (with_limit self.now.limit spec.given opening tokens.old) result tokens.new }
     {
         let name = tokens.identifier(self.alloc)?;
         let assign = tokens.take(Sign::Assign)?;
@@ -79,7 +79,7 @@ impl<F: Fn(Global, &mut Tokens<'_>, usize, Rule) -> Result<SurfaceTerm, Halt>> G
     #[tactic(auto, unfolding(crate::specs::Parse::atom))]
     fn atom(&self, tokens: &mut Tokens<'_>) -> Result<SurfaceTerm, Halt>
         requires { Nests self.now.limit (F.pre self.now.nested) (F.post self.now.nested) }
-        ensures { Reads (spec.atom spec.standard (within self.now.limit) tokens.old) result tokens.new }
+        ensures { Reads (with_limit self.now.limit spec.atom tokens.old) result tokens.new }
     {
         match tokens.sign() {
             Sign::Identifier => {
@@ -113,7 +113,7 @@ impl<F: Fn(Global, &mut Tokens<'_>, usize, Rule) -> Result<SurfaceTerm, Halt>> G
         opening: TokenPlace,
     ) -> Result<Argument, Halt>
         requires { Nests self.now.limit (F.pre self.now.nested) (F.post self.now.nested) }
-        ensures { ReadsAs argument_of (spec.argument_behind spec.standard (within self.now.limit) opening tokens.old) result tokens.new }
+        ensures { ReadsAs argument_of (with_limit self.now.limit spec.argument_behind opening tokens.old) result tokens.new }
     {
         if tokens.assigns() {
             return self.given(tokens, opening);
@@ -125,7 +125,7 @@ impl<F: Fn(Global, &mut Tokens<'_>, usize, Rule) -> Result<SurfaceTerm, Halt>> G
     #[tactic(auto, unfolding(crate::specs::Parse::argument))]
     fn argument(&self, tokens: &mut Tokens<'_>) -> Result<Argument, Halt>
         requires { Nests self.now.limit (F.pre self.now.nested) (F.post self.now.nested) }
-        ensures { ReadsAs argument_of (spec.argument spec.standard (within self.now.limit) tokens.old) result tokens.new }
+        ensures { ReadsAs argument_of (with_limit self.now.limit spec.argument tokens.old) result tokens.new }
     {
         if tokens.sees(Sign::Open) {
             let opening = tokens.take(Sign::Open)?;
@@ -138,7 +138,7 @@ impl<F: Fn(Global, &mut Tokens<'_>, usize, Rule) -> Result<SurfaceTerm, Halt>> G
     #[tactic(auto, unfolding(crate::specs::Parse::arguments))]
     fn arguments(&self, tokens: &mut Tokens<'_>) -> Result<Vec<Argument>, Halt>
         requires { Nests self.now.limit (F.pre self.now.nested) (F.post self.now.nested) }
-        ensures { ReadsAs (λ v. arguments_of v.items) (spec.arguments spec.standard (within self.now.limit) tokens.old) result tokens.new }
+        ensures { ReadsAs (λ v. arguments_of v.items) (with_limit self.now.limit spec.arguments tokens.old) result tokens.new }
     {
         let mut arguments = Vec::new(self.alloc);
         while begins_atom(tokens.sign()) {
@@ -150,7 +150,7 @@ impl<F: Fn(Global, &mut Tokens<'_>, usize, Rule) -> Result<SurfaceTerm, Halt>> G
     #[tactic(auto, unfolding(crate::specs::Parse::application))]
     pub fn application(&self, tokens: &mut Tokens<'_>) -> Result<SurfaceTerm, Halt>
         requires { Nests self.now.limit (F.pre self.now.nested) (F.post self.now.nested) }
-        ensures { Reads (spec.application spec.standard (within self.now.limit) tokens.old) result tokens.new }
+        ensures { Reads (with_limit self.now.limit spec.application tokens.old) result tokens.new }
     {
         let head = self.atom(tokens)?;
         let arguments = self.arguments(tokens)?;

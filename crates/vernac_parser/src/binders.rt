@@ -2,7 +2,7 @@
 
 ghost use Rattle.std.specs.Prelude.{◌≡◌};
 ghost use Rattle.vernac_parser.specs.Parse as spec;
-ghost use Rattle.vernac_parser.specs.Views.{within, group_of};
+ghost use Rattle.vernac_parser.specs.Views.{with_limit, group_of};
 ghost use Rattle.vernac_parser.specs.Reads.{Reads, ReadsAs};
 ghost use Rattle.vernac_parser.specs.Nests.{Nests};
 ghost use Rattle.coq_syntax.specs.Nodes.{groups_of, binders_of, annotation_of};
@@ -48,7 +48,7 @@ impl<F: Fn(Global, &mut Tokens<'_>, usize, Rule) -> Result<SurfaceTerm, Halt>> G
     #[tactic(auto, unfolding(crate::specs::Parse::group))]
     fn group(&self, tokens: &mut Tokens<'_>) -> Result<Group, Halt>
         requires { Nests self.now.limit (F.pre self.now.nested) (F.post self.now.nested) }
-        ensures { ReadsAs group_of (spec.group spec.standard (within self.now.limit) tokens.old) result tokens.new }
+        ensures { ReadsAs group_of (with_limit self.now.limit spec.group tokens.old) result tokens.new }
     {
         let opening = tokens.take(Sign::Open)?;
         let names = names(self.alloc, tokens)?;
@@ -68,7 +68,7 @@ impl<F: Fn(Global, &mut Tokens<'_>, usize, Rule) -> Result<SurfaceTerm, Halt>> G
     #[tactic(auto, unfolding(crate::specs::Parse::groups))]
     pub fn groups(&self, tokens: &mut Tokens<'_>) -> Result<Vec<Group>, Halt>
         requires { Nests self.now.limit (F.pre self.now.nested) (F.post self.now.nested) }
-        ensures { ReadsAs (λ v. groups_of v.items) (spec.groups spec.standard (within self.now.limit) tokens.old) result tokens.new }
+        ensures { ReadsAs (λ v. groups_of v.items) (with_limit self.now.limit spec.groups tokens.old) result tokens.new }
     {
         let mut groups = Vec::new(self.alloc);
         while tokens.sees(Sign::Open) {
@@ -80,7 +80,7 @@ impl<F: Fn(Global, &mut Tokens<'_>, usize, Rule) -> Result<SurfaceTerm, Halt>> G
     #[tactic(auto, unfolding(crate::specs::Parse::binders))]
     pub fn binders(&self, tokens: &mut Tokens<'_>) -> Result<Binders, Halt>
         requires { Nests self.now.limit (F.pre self.now.nested) (F.post self.now.nested) }
-        ensures { ReadsAs binders_of (spec.binders spec.standard (within self.now.limit) tokens.old) result tokens.new }
+        ensures { ReadsAs binders_of (with_limit self.now.limit spec.binders tokens.old) result tokens.new }
     {
         if tokens.sees(Sign::Open) {
             return Ok(Binders::Groups(self.groups(tokens)?));
@@ -95,7 +95,7 @@ impl<F: Fn(Global, &mut Tokens<'_>, usize, Rule) -> Result<SurfaceTerm, Halt>> G
     #[tactic(auto, unfolding(crate::specs::Parse::annotation))]
     pub fn annotation(&self, tokens: &mut Tokens<'_>) -> Result<Annotation, Halt>
         requires { Nests self.now.limit (F.pre self.now.nested) (F.post self.now.nested) }
-        ensures { ReadsAs annotation_of (spec.annotation spec.standard (within self.now.limit) tokens.old) result tokens.new }
+        ensures { ReadsAs annotation_of (with_limit self.now.limit spec.annotation tokens.old) result tokens.new }
     {
         if !tokens.sees(Sign::Colon) {
             return Ok(Annotation::Untyped);

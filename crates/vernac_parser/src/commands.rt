@@ -2,9 +2,8 @@
 
 ghost use Rattle.std.specs.Prelude.{◌≡◌};
 ghost use Rattle.coq_syntax.specs.Forms.{constructor_of, constructors_of};
-ghost use Rattle.vernac_parser.specs.Parse.{standard};
 ghost use Rattle.vernac_parser.specs.ParseCommand as spec;
-ghost use Rattle.vernac_parser.specs.Views.{within};
+ghost use Rattle.vernac_parser.specs.Views.{with_limit};
 ghost use Rattle.vernac_parser.specs.Reads.{Reads, ReadsAs};
 ghost use Rattle.vernac_parser.specs.Nests.{Nests};
 
@@ -35,7 +34,7 @@ impl<F: Fn(Global, &mut Tokens<'_>, usize, Rule) -> Result<SurfaceTerm, Halt>> G
     #[tactic(auto, unfolding(crate::specs::ParseCommand::assume))]
     fn assume(&self, tokens: &mut Tokens<'_>, word: AssumptionWord) -> Result<Command, Halt>
         requires { Nests self.now.limit (F.pre self.now.nested) (F.post self.now.nested) }
-        ensures { Reads (spec.assume standard (within self.now.limit) word tokens.old) result tokens.new }
+        ensures { Reads (with_limit self.now.limit spec.assume word tokens.old) result tokens.new }
     {
         let keyword = keyword(tokens)?;
         let name = tokens.identifier(self.alloc)?;
@@ -53,7 +52,7 @@ impl<F: Fn(Global, &mut Tokens<'_>, usize, Rule) -> Result<SurfaceTerm, Halt>> G
     #[tactic(auto, unfolding(crate::specs::ParseCommand::define))]
     fn define(&self, tokens: &mut Tokens<'_>) -> Result<Command, Halt>
         requires { Nests self.now.limit (F.pre self.now.nested) (F.post self.now.nested) }
-        ensures { Reads (spec.define standard (within self.now.limit) tokens.old) result tokens.new }
+        ensures { Reads (with_limit self.now.limit spec.define tokens.old) result tokens.new }
     {
         let keyword = keyword(tokens)?;
         let name = tokens.identifier(self.alloc)?;
@@ -74,7 +73,7 @@ impl<F: Fn(Global, &mut Tokens<'_>, usize, Rule) -> Result<SurfaceTerm, Halt>> G
     #[tactic(auto, unfolding(crate::specs::ParseCommand::state))]
     fn state(&self, tokens: &mut Tokens<'_>, word: StatementWord) -> Result<Command, Halt>
         requires { Nests self.now.limit (F.pre self.now.nested) (F.post self.now.nested) }
-        ensures { Reads (spec.state standard (within self.now.limit) word tokens.old) result tokens.new }
+        ensures { Reads (with_limit self.now.limit spec.state word tokens.old) result tokens.new }
     {
         let keyword = keyword(tokens)?;
         let name = tokens.identifier(self.alloc)?;
@@ -98,7 +97,7 @@ impl<F: Fn(Global, &mut Tokens<'_>, usize, Rule) -> Result<SurfaceTerm, Halt>> G
         bar: Option<TokenPlace>,
     ) -> Result<Constructor, Halt>
         requires { Nests self.now.limit (F.pre self.now.nested) (F.post self.now.nested) }
-        ensures { ReadsAs constructor_of (spec.constructor standard (within self.now.limit) bar tokens.old) result tokens.new }
+        ensures { ReadsAs constructor_of (with_limit self.now.limit spec.constructor bar tokens.old) result tokens.new }
     {
         let name = tokens.identifier(self.alloc)?;
         let groups = self.groups(tokens)?;
@@ -114,7 +113,7 @@ impl<F: Fn(Global, &mut Tokens<'_>, usize, Rule) -> Result<SurfaceTerm, Halt>> G
     #[tactic(auto, unfolding(crate::specs::ParseCommand::barred))]
     fn barred(&self, tokens: &mut Tokens<'_>) -> Result<Constructor, Halt>
         requires { Nests self.now.limit (F.pre self.now.nested) (F.post self.now.nested) }
-        ensures { ReadsAs constructor_of (spec.barred standard (within self.now.limit) tokens.old) result tokens.new }
+        ensures { ReadsAs constructor_of (with_limit self.now.limit spec.barred tokens.old) result tokens.new }
     {
         let bar = tokens.take(Sign::Bar)?;
         self.constructor(tokens, Some(bar))
@@ -123,7 +122,7 @@ impl<F: Fn(Global, &mut Tokens<'_>, usize, Rule) -> Result<SurfaceTerm, Halt>> G
     #[tactic(auto, unfolding(crate::specs::ParseCommand::first_constructor))]
     fn first_constructor(&self, tokens: &mut Tokens<'_>) -> Result<Constructor, Halt>
         requires { Nests self.now.limit (F.pre self.now.nested) (F.post self.now.nested) }
-        ensures { ReadsAs constructor_of (spec.first_constructor standard (within self.now.limit) tokens.old) result tokens.new }
+        ensures { ReadsAs constructor_of (with_limit self.now.limit spec.first_constructor tokens.old) result tokens.new }
     {
         if tokens.sees(Sign::Bar) {
             self.barred(tokens)
@@ -135,7 +134,7 @@ impl<F: Fn(Global, &mut Tokens<'_>, usize, Rule) -> Result<SurfaceTerm, Halt>> G
     #[tactic(auto, unfolding(crate::specs::ParseCommand::constructors))]
     fn constructors(&self, tokens: &mut Tokens<'_>) -> Result<Vec<Constructor>, Halt>
         requires { Nests self.now.limit (F.pre self.now.nested) (F.post self.now.nested) }
-        ensures { ReadsAs (λ v. constructors_of v.items) (spec.constructors standard (within self.now.limit) tokens.old) result tokens.new }
+        ensures { ReadsAs (λ v. constructors_of v.items) (with_limit self.now.limit spec.constructors tokens.old) result tokens.new }
     {
         let mut constructors = Vec::new(self.alloc);
         if !begins_constructor(tokens.sign()) {
@@ -151,7 +150,7 @@ impl<F: Fn(Global, &mut Tokens<'_>, usize, Rule) -> Result<SurfaceTerm, Halt>> G
     #[tactic(auto, unfolding(crate::specs::ParseCommand::inductive))]
     fn inductive(&self, tokens: &mut Tokens<'_>) -> Result<Command, Halt>
         requires { Nests self.now.limit (F.pre self.now.nested) (F.post self.now.nested) }
-        ensures { Reads (spec.inductive standard (within self.now.limit) tokens.old) result tokens.new }
+        ensures { Reads (with_limit self.now.limit spec.inductive tokens.old) result tokens.new }
     {
         let keyword = keyword(tokens)?;
         let name = tokens.identifier(self.alloc)?;
@@ -174,7 +173,7 @@ impl<F: Fn(Global, &mut Tokens<'_>, usize, Rule) -> Result<SurfaceTerm, Halt>> G
     #[tactic(auto, unfolding(crate::specs::ParseCommand::check))]
     fn check(&self, tokens: &mut Tokens<'_>) -> Result<Command, Halt>
         requires { Nests self.now.limit (F.pre self.now.nested) (F.post self.now.nested) }
-        ensures { Reads (spec.check standard (within self.now.limit) tokens.old) result tokens.new }
+        ensures { Reads (with_limit self.now.limit spec.check tokens.old) result tokens.new }
     {
         let keyword = keyword(tokens)?;
         let term = self.inner(tokens, Rule::Whole)?;
@@ -183,7 +182,7 @@ impl<F: Fn(Global, &mut Tokens<'_>, usize, Rule) -> Result<SurfaceTerm, Halt>> G
 
     fn by_word(&self, tokens: &mut Tokens<'_>, word: Option<CommandWord>) -> Result<Command, Halt>
         requires { Nests self.now.limit (F.pre self.now.nested) (F.post self.now.nested) }
-        ensures { Reads (spec.by_word standard (within self.now.limit) word tokens.old) result tokens.new }
+        ensures { Reads (with_limit self.now.limit spec.by_word word tokens.old) result tokens.new }
     {
         match word {
             None => Err(tokens.refuse()),
@@ -207,7 +206,7 @@ impl<F: Fn(Global, &mut Tokens<'_>, usize, Rule) -> Result<SurfaceTerm, Halt>> G
     #[tactic(auto, unfolding(crate::specs::ParseCommand::row))]
     fn row(&self, tokens: &mut Tokens<'_>) -> Result<Command, Halt>
         requires { Nests self.now.limit (F.pre self.now.nested) (F.post self.now.nested) }
-        ensures { Reads (spec.row standard (within self.now.limit) tokens.old) result tokens.new }
+        ensures { Reads (with_limit self.now.limit spec.row tokens.old) result tokens.new }
     {
         let word = tokens.command_word();
         self.by_word(tokens, word)
@@ -217,7 +216,7 @@ impl<F: Fn(Global, &mut Tokens<'_>, usize, Rule) -> Result<SurfaceTerm, Halt>> G
     #[tactic(auto, unfolding(crate::specs::ParseCommand::command))]
     pub fn command(&self, tokens: &mut Tokens<'_>) -> Result<Command, Halt>
         requires { Nests self.now.limit (F.pre self.now.nested) (F.post self.now.nested) }
-        ensures { Reads (spec.command standard (within self.now.limit) tokens.old) result tokens.new }
+        ensures { Reads (with_limit self.now.limit spec.command tokens.old) result tokens.new }
     {
         let command = self.row(tokens)?;
         tokens.end()?;

@@ -2,7 +2,7 @@
 //! itself.
 
 ghost use Rattle.vernac_parser.specs.Parse as spec;
-ghost use Rattle.vernac_parser.specs.Views.{within};
+ghost use Rattle.vernac_parser.specs.Views.{with_limit, within};
 ghost use Rattle.vernac_parser.specs.Reads.{Reads};
 ghost use Rattle.vernac_parser.specs.Nests.{Nests};
 
@@ -37,7 +37,7 @@ impl<F: Fn(Global, &mut Tokens<'_>, usize, Rule) -> Result<SurfaceTerm, Halt>> G
     #[tactic(auto, unfolding(crate::specs::Parse::by_rule))]
     fn by_rule(&self, tokens: &mut Tokens<'_>, rule: Rule) -> Result<SurfaceTerm, Halt>
         requires { Nests self.now.limit (F.pre self.now.nested) (F.post self.now.nested) }
-        ensures { Reads (spec.by_rule spec.standard (within self.now.limit) rule tokens.old) result tokens.new }
+        ensures { Reads (with_limit self.now.limit spec.by_rule rule tokens.old) result tokens.new }
     {
         match rule {
             Rule::Whole => self.term(tokens),

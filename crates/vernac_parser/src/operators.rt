@@ -2,7 +2,7 @@
 
 ghost use Rattle.std.specs.Prelude.{◌≡◌};
 ghost use Rattle.vernac_parser.specs.Parse as spec;
-ghost use Rattle.vernac_parser.specs.Views.{within};
+ghost use Rattle.vernac_parser.specs.Views.{with_limit};
 ghost use Rattle.vernac_parser.specs.Reads.{Reads};
 ghost use Rattle.vernac_parser.specs.Nests.{Nests};
 
@@ -18,7 +18,7 @@ impl<F: Fn(Global, &mut Tokens<'_>, usize, Rule) -> Result<SurfaceTerm, Halt>> G
     #[tactic(auto, unfolding(crate::specs::Parse::forall_form))]
     fn forall_form(&self, tokens: &mut Tokens<'_>) -> Result<SurfaceTerm, Halt>
         requires { Nests self.now.limit (F.pre self.now.nested) (F.post self.now.nested) }
-        ensures { Reads (spec.forall_form spec.standard (within self.now.limit) tokens.old) result tokens.new }
+        ensures { Reads (with_limit self.now.limit spec.forall_form tokens.old) result tokens.new }
     {
         let keyword = tokens.take(Sign::Forall)?;
         let binders = self.binders(tokens)?;
@@ -35,7 +35,7 @@ impl<F: Fn(Global, &mut Tokens<'_>, usize, Rule) -> Result<SurfaceTerm, Halt>> G
     #[tactic(auto, unfolding(crate::specs::Parse::fun_form))]
     fn fun_form(&self, tokens: &mut Tokens<'_>) -> Result<SurfaceTerm, Halt>
         requires { Nests self.now.limit (F.pre self.now.nested) (F.post self.now.nested) }
-        ensures { Reads (spec.fun_form spec.standard (within self.now.limit) tokens.old) result tokens.new }
+        ensures { Reads (with_limit self.now.limit spec.fun_form tokens.old) result tokens.new }
     {
         let keyword = tokens.take(Sign::Fun)?;
         let binders = self.binders(tokens)?;
@@ -52,7 +52,7 @@ impl<F: Fn(Global, &mut Tokens<'_>, usize, Rule) -> Result<SurfaceTerm, Halt>> G
     #[tactic(auto, unfolding(crate::specs::Parse::let_form))]
     fn let_form(&self, tokens: &mut Tokens<'_>) -> Result<SurfaceTerm, Halt>
         requires { Nests self.now.limit (F.pre self.now.nested) (F.post self.now.nested) }
-        ensures { Reads (spec.let_form spec.standard (within self.now.limit) tokens.old) result tokens.new }
+        ensures { Reads (with_limit self.now.limit spec.let_form tokens.old) result tokens.new }
     {
         let keyword = tokens.take(Sign::Let)?;
         let name = binder_name(self.alloc, tokens)?;
@@ -75,7 +75,7 @@ impl<F: Fn(Global, &mut Tokens<'_>, usize, Rule) -> Result<SurfaceTerm, Halt>> G
     #[tactic(auto, unfolding(crate::specs::Parse::open_form))]
     fn open_form(&self, tokens: &mut Tokens<'_>) -> Result<SurfaceTerm, Halt>
         requires { Nests self.now.limit (F.pre self.now.nested) (F.post self.now.nested) }
-        ensures { Reads (spec.open_form spec.standard (within self.now.limit) tokens.old) result tokens.new }
+        ensures { Reads (with_limit self.now.limit spec.open_form tokens.old) result tokens.new }
     {
         match tokens.sign() {
             Sign::Forall => self.forall_form(tokens),
@@ -88,7 +88,7 @@ impl<F: Fn(Global, &mut Tokens<'_>, usize, Rule) -> Result<SurfaceTerm, Halt>> G
     #[tactic(auto, unfolding(crate::specs::Parse::operand))]
     fn operand(&self, tokens: &mut Tokens<'_>, rule: Rule) -> Result<SurfaceTerm, Halt>
         requires { Nests self.now.limit (F.pre self.now.nested) (F.post self.now.nested) }
-        ensures { Reads (spec.operand spec.standard (within self.now.limit) rule tokens.old) result tokens.new }
+        ensures { Reads (with_limit self.now.limit spec.operand rule tokens.old) result tokens.new }
     {
         if begins_open(tokens.sign()) {
             self.open_form(tokens)
@@ -100,7 +100,7 @@ impl<F: Fn(Global, &mut Tokens<'_>, usize, Rule) -> Result<SurfaceTerm, Halt>> G
     #[tactic(auto, unfolding(crate::specs::Parse::equal_behind))]
     fn equal_behind(&self, tokens: &mut Tokens<'_>, left: SurfaceTerm) -> Result<SurfaceTerm, Halt>
         requires { Nests self.now.limit (F.pre self.now.nested) (F.post self.now.nested) }
-        ensures { Reads (spec.equal_behind spec.standard (within self.now.limit) left tokens.old) result tokens.new }
+        ensures { Reads (with_limit self.now.limit spec.equal_behind left tokens.old) result tokens.new }
     {
         if !tokens.sees(Sign::Equal) {
             return Ok(left);
@@ -117,7 +117,7 @@ impl<F: Fn(Global, &mut Tokens<'_>, usize, Rule) -> Result<SurfaceTerm, Halt>> G
     #[tactic(auto, unfolding(crate::specs::Parse::t70))]
     fn t70(&self, tokens: &mut Tokens<'_>) -> Result<SurfaceTerm, Halt>
         requires { Nests self.now.limit (F.pre self.now.nested) (F.post self.now.nested) }
-        ensures { Reads (spec.t70 spec.standard (within self.now.limit) tokens.old) result tokens.new }
+        ensures { Reads (with_limit self.now.limit spec.t70 tokens.old) result tokens.new }
     {
         let left = self.application(tokens)?;
         self.equal_behind(tokens, left)
@@ -126,7 +126,7 @@ impl<F: Fn(Global, &mut Tokens<'_>, usize, Rule) -> Result<SurfaceTerm, Halt>> G
     #[tactic(auto, unfolding(crate::specs::Parse::t75))]
     pub fn t75(&self, tokens: &mut Tokens<'_>) -> Result<SurfaceTerm, Halt>
         requires { Nests self.now.limit (F.pre self.now.nested) (F.post self.now.nested) }
-        ensures { Reads (spec.t75 spec.standard (within self.now.limit) tokens.old) result tokens.new }
+        ensures { Reads (with_limit self.now.limit spec.t75 tokens.old) result tokens.new }
     {
         if !tokens.sees(Sign::Not) {
             return self.t70(tokens);
@@ -139,7 +139,7 @@ impl<F: Fn(Global, &mut Tokens<'_>, usize, Rule) -> Result<SurfaceTerm, Halt>> G
     #[tactic(auto, unfolding(crate::specs::Parse::and_behind))]
     fn and_behind(&self, tokens: &mut Tokens<'_>, left: SurfaceTerm) -> Result<SurfaceTerm, Halt>
         requires { Nests self.now.limit (F.pre self.now.nested) (F.post self.now.nested) }
-        ensures { Reads (spec.and_behind spec.standard (within self.now.limit) left tokens.old) result tokens.new }
+        ensures { Reads (with_limit self.now.limit spec.and_behind left tokens.old) result tokens.new }
     {
         if !tokens.sees(Sign::And) {
             return Ok(left);
@@ -156,7 +156,7 @@ impl<F: Fn(Global, &mut Tokens<'_>, usize, Rule) -> Result<SurfaceTerm, Halt>> G
     #[tactic(auto, unfolding(crate::specs::Parse::t80))]
     pub fn t80(&self, tokens: &mut Tokens<'_>) -> Result<SurfaceTerm, Halt>
         requires { Nests self.now.limit (F.pre self.now.nested) (F.post self.now.nested) }
-        ensures { Reads (spec.t80 spec.standard (within self.now.limit) tokens.old) result tokens.new }
+        ensures { Reads (with_limit self.now.limit spec.t80 tokens.old) result tokens.new }
     {
         let left = self.t75(tokens)?;
         self.and_behind(tokens, left)
@@ -165,7 +165,7 @@ impl<F: Fn(Global, &mut Tokens<'_>, usize, Rule) -> Result<SurfaceTerm, Halt>> G
     #[tactic(auto, unfolding(crate::specs::Parse::or_behind))]
     fn or_behind(&self, tokens: &mut Tokens<'_>, left: SurfaceTerm) -> Result<SurfaceTerm, Halt>
         requires { Nests self.now.limit (F.pre self.now.nested) (F.post self.now.nested) }
-        ensures { Reads (spec.or_behind spec.standard (within self.now.limit) left tokens.old) result tokens.new }
+        ensures { Reads (with_limit self.now.limit spec.or_behind left tokens.old) result tokens.new }
     {
         if !tokens.sees(Sign::Or) {
             return Ok(left);
@@ -182,7 +182,7 @@ impl<F: Fn(Global, &mut Tokens<'_>, usize, Rule) -> Result<SurfaceTerm, Halt>> G
     #[tactic(auto, unfolding(crate::specs::Parse::t85))]
     pub fn t85(&self, tokens: &mut Tokens<'_>) -> Result<SurfaceTerm, Halt>
         requires { Nests self.now.limit (F.pre self.now.nested) (F.post self.now.nested) }
-        ensures { Reads (spec.t85 spec.standard (within self.now.limit) tokens.old) result tokens.new }
+        ensures { Reads (with_limit self.now.limit spec.t85 tokens.old) result tokens.new }
     {
         let left = self.t80(tokens)?;
         self.or_behind(tokens, left)
@@ -191,7 +191,7 @@ impl<F: Fn(Global, &mut Tokens<'_>, usize, Rule) -> Result<SurfaceTerm, Halt>> G
     #[tactic(auto, unfolding(crate::specs::Parse::arrow_behind))]
     fn arrow_behind(&self, tokens: &mut Tokens<'_>, left: SurfaceTerm) -> Result<SurfaceTerm, Halt>
         requires { Nests self.now.limit (F.pre self.now.nested) (F.post self.now.nested) }
-        ensures { Reads (spec.arrow_behind spec.standard (within self.now.limit) left tokens.old) result tokens.new }
+        ensures { Reads (with_limit self.now.limit spec.arrow_behind left tokens.old) result tokens.new }
     {
         if !tokens.sees(Sign::Arrow) {
             return Ok(left);
@@ -208,7 +208,7 @@ impl<F: Fn(Global, &mut Tokens<'_>, usize, Rule) -> Result<SurfaceTerm, Halt>> G
     #[tactic(auto, unfolding(crate::specs::Parse::t99))]
     fn t99(&self, tokens: &mut Tokens<'_>) -> Result<SurfaceTerm, Halt>
         requires { Nests self.now.limit (F.pre self.now.nested) (F.post self.now.nested) }
-        ensures { Reads (spec.t99 spec.standard (within self.now.limit) tokens.old) result tokens.new }
+        ensures { Reads (with_limit self.now.limit spec.t99 tokens.old) result tokens.new }
     {
         let left = self.t85(tokens)?;
         self.arrow_behind(tokens, left)
@@ -217,7 +217,7 @@ impl<F: Fn(Global, &mut Tokens<'_>, usize, Rule) -> Result<SurfaceTerm, Halt>> G
     #[tactic(auto, unfolding(crate::specs::Parse::term))]
     pub fn term(&self, tokens: &mut Tokens<'_>) -> Result<SurfaceTerm, Halt>
         requires { Nests self.now.limit (F.pre self.now.nested) (F.post self.now.nested) }
-        ensures { Reads (spec.term spec.standard (within self.now.limit) tokens.old) result tokens.new }
+        ensures { Reads (with_limit self.now.limit spec.term tokens.old) result tokens.new }
     {
         if begins_open(tokens.sign()) {
             self.open_form(tokens)
