@@ -1,6 +1,5 @@
 -- A token list has at most one answer: the clauses on it leave nothing open.
-use Rattle.std.proofs.Common.{◌≡◌, ℕ, zero, suc, ◌+◌, ◌==◌, ◌<◌, ◌≤◌, ◌⊎◌, inl, inr, Bool, true, false, Option, None, Some, Result, Ok, Err, List, [], ◌∷◌, ◌++◌, length, refl, sym, ◌∙◌, ap, subst, arith, append_assoc, append-nil, length-append}
-use Rattle.std.proofs.lemmas.List.{append_cancel_right}
+use Rattle.std.proofs.Common.{◌≡◌, ℕ, suc, ◌==◌, ◌<◌, ◌⊎◌, inl, inr, Bool, true, false, Option, None, Some, Ok, Err, List, [], ◌∷◌, ◌++◌, length, refl, sym, ◌∙◌, ap, subst, arith, append_assoc, append-nil, length-append}
 use Rattle.coq_syntax.specs.declared.token.Token.{Token}
 use Rattle.coq_syntax.specs.Trees.{Term}
 use Rattle.coq_syntax.specs.CommandTrees.{Command}
@@ -11,9 +10,9 @@ use Rattle.coq_syntax.specs.Commands.{IsCommandOf, command_fault}
 use Rattle.vernac_parser.specs.declared.sign.Sign.TheVariants.{Assign}
 use Rattle.vernac_parser.specs.Signs.{is_sign, sign_at}
 use Rattle.vernac_parser.specs.Parser.{Outcome, unexpected}
-use Rattle.vernac_parser.specs.Refusals.{IsBehind, Begin, IsLongest, NoTree, OneTreeOf, IsAssigned, AtEnd, IsUnexpected, IsLimit}
-use Rattle.vernac_parser.specs.Meets.{fault_of_term, IsRead, IsRefused, IsAnswer, OneAnswer}
-use Rattle.vernac_parser.specs.MeetsWhole.{IsRefusedWhole, IsWholeAnswer, OneCommandAnswer}
+use Rattle.vernac_parser.specs.Refusals.{IsBehind, Begin, IsLongest, NoTree, IsAssigned, AtEnd, IsUnexpected, IsLimit}
+use Rattle.vernac_parser.specs.Meets.{fault_of_term, IsRead, IsRefused, OneAnswer}
+use Rattle.vernac_parser.specs.MeetsWhole.{IsRefusedWhole, OneCommandAnswer}
 use Rattle.vernac_parser.proofs.Local.{Longer, longer}
 use Rattle.vernac_parser.proofs.Refused.{equal_of, unequal_of}
 use Rattle.vernac_parser.proofs.Unique.{one_tree}
