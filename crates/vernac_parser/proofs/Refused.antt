@@ -1,9 +1,9 @@
 -- Behind what was read, and at an unexpected token, no tree goes on; and a limit is passed in each tree.
-use Rattle.std.proofs.Common.{◌≡◌, ℕ, zero, suc, ◌==◌, Bool, true, false, cond, Option, None, Some, Ok, Err, List, [], ◌∷◌, ◌++◌, length, ◌<◌, ◌≤◌, inl, inr, refl, sym, ◌∙◌, ap, subst, arith, append_assoc, append-nil}
+use Rattle.std.proofs.Common.{◌≡◌, ℕ, zero, suc, ◌==◌, Bool, true, false, cond, Option, None, Some, Ok, Err, List, [], ◌∷◌, ◌++◌, length, ◌<◌, ◌≤◌, inl, inr, refl, sym, ◌∙◌, ap, subst, arith, append_assoc, append-nil, length-append}
 use Rattle.coq_syntax.specs.declared.token.Token.{Token}
 use Rattle.coq_syntax.specs.Trees.{Term, Forall, Fun, Let, Arrow, Or, And, Not, Equal, Apply, Name, PropSort, SetSort, TypeSort, TypeAt, Numeral, Parenthesized, Binders, Names, Groups, GroupList, NoGroup, Group, Annotation, Untyped, Typed, Arguments, NoArgument, Positional, Given}
 use Rattle.coq_syntax.specs.Spelled.{spells}
-use Rattle.coq_syntax.specs.Grammar.{level, IsTermOf}
+use Rattle.coq_syntax.specs.Grammar.{level, IsTerm, IsTermOf}
 use Rattle.coq_syntax.specs.Limits.{open_level, most_nested, too_deep}
 use Rattle.coq_syntax.specs.Faults.{Fault, first, nested, value_of, fault, binders_fault, groups_fault, annotation_fault, arguments_fault, term_fault}
 use Rattle.vernac_parser.specs.Parser.{Outcome, unexpected}
@@ -153,3 +153,15 @@ faults_behind i u rest f h o c others t tree assigned = by (term_fault t []) ref
     by : (k : Option Fault) → term_fault t [] ≡ k → Sound k → IsBehind (length others) k
     by None e sound = tt
     by (Some g) e sound = elim (either (length g.rest) (length others)) as (λ _. length g.rest ≤ length others) [ inl l ↦ l | inr l ↦ absurd (inside g (there ∙ ap (λ k. answered k t []) e) sound l) ]
+
+-- a term's fault stands at one of its tokens
+pub fault_within : (t : Term) → IsTerm t → IsBehind (length (spells t [])) (term_fault t [])
+fault_within t h = by (term_fault t []) refl
+  where
+    by : (k : Option Fault) → term_fault t [] ≡ k → IsBehind (length (spells t [])) k
+    by None e = tt
+    by (Some g) e =
+        let answer : whole_term (spells t []) ≡ Err g = complete_term t [] h (omega arith) ∙ ap (λ k. answered k t []) e in
+        let cut : (u : List Token) × (spells t [] ≡ u ++ stop (whole_term (spells t []))) = (local_nested standard most_nested Whole).cut (spells t []) in
+        let parts : length (spells t []) ≡ length (cut.0 ++ g.rest) = ap length (cut.1 ∙ ap (λ o. cut.0 ++ stop o) answer) in
+        omega (arith, parts, length-append cut.0 g.rest)
