@@ -42,7 +42,7 @@ order_by u v u' v' e (inl l) = Before (longer u v u' v' e l)
 order_by u v u' v' e (inr (inl l)) = Behind (longer u' v' u v (sym e) l)
 order_by u v u' v' e (inr (inr l)) = let h : (u ≡ u') × (v ≡ v') = lengths_same u v u' v' e l in Here h.0 h.1
 
-order : (i u v u' v' : List Token) → i ≡ u ++ v → i ≡ u' ++ v' → Order u v u' v'
+pub order : (i u v u' v' : List Token) → i ≡ u ++ v → i ≡ u' ++ v' → Order u v u' v'
 order i u v u' v' h h' = order_by u v u' v' (sym h ∙ h') (three (length v) (length v'))
 
 fault_made : ℕ → List Token → Fault
@@ -62,12 +62,12 @@ fault_rest (Some f) = f.rest
 
 module _ {A : Type 0} (Is : List Token → A → Type 0) (fault_of : A → Option Fault) where
   -- the tokens before a later place begin a tree, so a refusal of an unexpected token does not stand before it
-  not_longest : (u v u' v' w : List Token) (t : A) → Longer u v u' v' → IsLongest Is u' v' → Is (u ++ w) t → ⊥
+  pub not_longest : (u v u' v' w : List Token) (t : A) → Longer u v u' v' → IsLongest Is u' v' → Is (u ++ w) t → ⊥
   not_longest u v u' v' w t l long tree =
       let none : Begin Is (u' ++ l.first ∷ []) → ⊥ = subst (IsLongest Is u') l.last long in
       none (l.back ++ w, t, subst (λ x. Is x t) (ap (λ x. x ++ w) l.whole ∙ append_assoc u' (l.first ∷ l.back) w ∙ sym (append_assoc u' (l.first ∷ []) (l.back ++ w))) tree)
 
-  two_unexpected : (i : List Token) (f g : Fault) → f.code ≡ unexpected → g.code ≡ unexpected → IsUnexpected Is fault_of i f.rest → IsUnexpected Is fault_of i g.rest → f ≡ g
+  pub two_unexpected : (i : List Token) (f g : Fault) → f.code ≡ unexpected → g.code ≡ unexpected → IsUnexpected Is fault_of i f.rest → IsUnexpected Is fault_of i g.rest → f ≡ g
   two_unexpected i f g c d a b = by (order i a.used f.rest b.used g.rest a.parts b.parts)
     where
       by : Order a.used f.rest b.used g.rest → f ≡ g
@@ -81,7 +81,7 @@ module _ {A : Type 0} (Is : List Token → A → Type 0) (fault_of : A → Optio
   passed_there None n f h e l = cc
   passed_there (Some g) n f h e l = let size : length g.rest ≡ length f.rest = ap (λ k. length (fault_rest k)) e in omega arith
 
-  begins_next : (u w : List Token) (next : Token) (t : A) → Is (u ++ next ∷ w) t → Begin Is (u ++ next ∷ [])
+  pub begins_next : (u w : List Token) (next : Token) (t : A) → Is (u ++ next ∷ w) t → Begin Is (u ++ next ∷ [])
   begins_next u w next t h = (w, t, subst (λ x. Is x t) (sym (append_assoc u (next ∷ []) w)) h)
 
   -- the limit stands before the unexpected token
@@ -99,7 +99,7 @@ module _ {A : Type 0} (Is : List Token → A → Type 0) (fault_of : A → Optio
       let tree : Is (b.used ++ b.next ∷ x ∷ (back ++ a.more)) a.tree = subst (λ y. Is y a.tree) (ap (λ y. y ++ a.more) used ∙ append_assoc b.used (b.next ∷ x ∷ back) a.more) a.begun in
       passed_there (fault_of a.tree) (length a.more) (record { code = g.code; rest = b.next ∷ x ∷ (back ++ a.more) }) a.sound (b.each (x ∷ (back ++ a.more)) a.tree tree (λ _ k. subst IsAssigned (sym after) k)) (omega (arith, length-append back a.more))
 
-  unexpected_limit : (i : List Token) (f g : Fault) → IsUnexpected Is fault_of i f.rest → IsLimit Is fault_of i g → ⊥
+  pub unexpected_limit : (i : List Token) (f g : Fault) → IsUnexpected Is fault_of i f.rest → IsLimit Is fault_of i g → ⊥
   unexpected_limit i f g a b = by (order i a.used f.rest b.used (b.next ∷ b.after) a.parts b.parts)
     where
       by : Order a.used f.rest b.used (b.next ∷ b.after) → ⊥
@@ -136,7 +136,7 @@ module _ {A : Type 0} (Is : List Token → A → Type 0) (fault_of : A → Optio
       let there : fault_of b.tree ≡ Some (record { code = f.code; rest = a.next ∷ b.more }) = a.each b.more b.tree tree (λ k. absurd (d k)) in
       ap fault_code (sym there ∙ b.first)
 
-  two_limits : (i : List Token) (f g : Fault) → IsLimit Is fault_of i f → IsLimit Is fault_of i g → f ≡ g
+  pub two_limits : (i : List Token) (f g : Fault) → IsLimit Is fault_of i f → IsLimit Is fault_of i g → f ≡ g
   two_limits i f g a b = by (order i a.used (a.next ∷ a.after) b.used (b.next ∷ b.after) a.parts b.parts)
     where
       codes_same : (c d : Bool) → (f.code == too_deep) ≡ c → (g.code == too_deep) ≡ d → a.used ≡ b.used → a.next ≡ b.next → f.code ≡ g.code
