@@ -17,7 +17,7 @@ pub struct Parsed {
     pub next: usize,
 }
 
-/// Where a token stands that has so many behind it, itself included; for none it is the period.
+/// Where the first of the last so many tokens stands; for none of them it is the period.
 fn place_of(tokens: &TokenList, left: usize) -> Place
     requires { left ≤ length tokens.now.items }
     ensures { result ≡ next_place tokens.now.period (drop (length tokens.now.items - left) tokens.now.items) }
@@ -48,7 +48,7 @@ fn stop_of(tokens: &TokenList, halt: Halt) -> Stop
     }
 }
 
-/// The term that begins at a place of the list, as long as it can be.
+/// The term that begins at a place of the list, as long as it can be. The time is linear in the tokens from there.
 pub fn parse_term(alloc: Global, tokens: &TokenList, at: usize) -> Result<Parsed, Stop>
     requires { at ≤ length tokens.now.items }
     ensures { IsParsed tokens.now at result }
@@ -64,7 +64,7 @@ pub fn parse_term(alloc: Global, tokens: &TokenList, at: usize) -> Result<Parsed
     }
 }
 
-/// The command that the list is, whole.
+/// The command that the list is, whole. The time is linear in the tokens.
 pub fn parse_command(alloc: Global, tokens: &TokenList) -> Result<Command, Stop>
     ensures { IsCommandParsed tokens.now result }
 {
