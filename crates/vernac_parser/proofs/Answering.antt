@@ -8,7 +8,8 @@ use Rattle.coq_syntax.specs.Faults.{Fault, term_fault}
 use Rattle.vernac_parser.specs.Parser.{Outcome, unexpected}
 use Rattle.vernac_parser.specs.Parse.{Whole, whole_term}
 use Rattle.vernac_parser.specs.Refusals.{IsBehind, IsUnexpected, IsLimit, NoTree, AtEnd}
-use Rattle.vernac_parser.specs.Meets.{fault_of_term, IsRead, IsRefused, IsAnswer, AnswersMeet}
+use Rattle.vernac_parser.specs.Meets.{fault_of_term, IsRead, IsRefused, IsAnswer}
+use Rattle.vernac_parser.specs.Lawful.{AnswersMeet}
 use Rattle.vernac_parser.proofs.Local
 use Rattle.vernac_parser.proofs.Refused.{is_longest, no_tree, each_limit, faults_behind, Plain}
 use Rattle.vernac_parser.proofs.Viable.{Read, Partial, Passed, Why, Answers}

@@ -7,7 +7,8 @@ use Rattle.coq_syntax.specs.Commands.{IsCommandOf, command_fault}
 use Rattle.vernac_parser.specs.Parser.{Outcome, unexpected}
 use Rattle.vernac_parser.specs.ParseCommand.{whole_command}
 use Rattle.vernac_parser.specs.Refusals.{IsBehind, IsUnexpected, IsLimit, NoTree, AtEnd}
-use Rattle.vernac_parser.specs.MeetsWhole.{IsRefusedWhole, IsWholeAnswer, CommandAnswersMeet}
+use Rattle.vernac_parser.specs.MeetsWhole.{IsRefusedWhole, IsWholeAnswer}
+use Rattle.vernac_parser.specs.Lawful.{CommandAnswersMeet}
 use Rattle.vernac_parser.proofs.Viable.{Read, Partial, Passed, Why, Answers}
 use Rattle.vernac_parser.proofs.CommandFaults.{spelled_alone, command_faults, plain, fault_alone}
 use Rattle.vernac_parser.proofs.CommandRefused.{is_longest, no_command_at_end, each_limit, faults_behind}

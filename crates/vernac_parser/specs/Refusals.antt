@@ -6,7 +6,11 @@ use Rattle.vernac_parser.specs.declared.sign.Sign.TheVariants.{Assign}
 use Rattle.vernac_parser.specs.Signs.{is_sign, sign_at}
 use Rattle.coq_syntax.specs.Faults.{Fault}
 
--- a fault, if there is one, stands behind all but so many tokens
+-- the refusal of a token that no tree allows, by its number
+abbrev pub unexpected : ℕ
+unexpected = 10
+
+-- a fault, if there is one, is among the last so many tokens
 abbrev pub IsBehind : ℕ → Option Fault → Type 0
 IsBehind left None = Unit {0}
 IsBehind left (Some f) = length f.rest ≤ left
@@ -38,8 +42,9 @@ AtEnd [] P = P
 AtEnd (next ∷ rest) P = Unit {0}
 
 module _ {A : Type 0} (Is : List Token → A → Type 0) (fault_of : A → Option Fault) where
-  -- No tree allows the next of these tokens, or they end too early: those before it begin a tree without a fault in them, and with
-  -- the next they begin none; at the end they are none. No tree that they begin has a fault in them, unless `:=` stands next here and not there.
+  -- No tree allows the next of these tokens, or they end too early: those before it begin a tree without a fault in them,
+  -- and with the next they begin none; at the end they are none. No tree that they begin has a fault in them, unless
+  -- `:=` stands next here and not there.
   pub record IsUnexpected (tokens rest : List Token) : Type 0 where
     pub used : List Token
     pub parts : tokens ≡ used ++ rest
@@ -47,7 +52,8 @@ module _ {A : Type 0} (Is : List Token → A → Type 0) (fault_of : A → Optio
     pub tree : A
     pub begun : Is (used ++ more) tree
     pub sound : IsBehind (length more) (fault_of tree)
-    pub each : (others : List Token) (t : A) → Is (used ++ others) t → (IsAssigned rest → IsAssigned others) → IsBehind (length others) (fault_of t)
+    pub each : (others : List Token) (t : A) → Is (used ++ others) t → (IsAssigned rest → IsAssigned others)
+        → IsBehind (length others) (fault_of t)
     pub longest : IsLongest Is used rest
     pub early : AtEnd rest (NoTree Is used)
 
@@ -63,4 +69,6 @@ module _ {A : Type 0} (Is : List Token → A → Type 0) (fault_of : A → Optio
     pub tree : A
     pub begun : Is (used ++ next ∷ more) tree
     pub first : fault_of tree ≡ Some (record { code = fault.code; rest = next ∷ more })
-    pub each : (others : List Token) (t : A) → Is (used ++ next ∷ others) t → (fault.code ≡ too_deep → IsAssigned others → IsAssigned after) → fault_of t ≡ Some (record { code = fault.code; rest = next ∷ others })
+    pub each : (others : List Token) (t : A) → Is (used ++ next ∷ others) t
+        → (fault.code ≡ too_deep → IsAssigned others → IsAssigned after)
+        → fault_of t ≡ Some (record { code = fault.code; rest = next ∷ others })

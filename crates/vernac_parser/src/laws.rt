@@ -1,7 +1,8 @@
 //! Laws of the grammar and of the rules, for the proofs above this crate.
 
-ghost use Rattle.vernac_parser.specs.Meets.{OneTree, AnswersMeet, OneAnswer};
-ghost use Rattle.vernac_parser.specs.MeetsWhole.{OneCommand, CommandAnswersMeet, OneCommandAnswer};
+ghost use Rattle.vernac_parser.specs.Meets.{OneTree, OneAnswer};
+ghost use Rattle.vernac_parser.specs.MeetsWhole.{OneCommand, OneCommandAnswer};
+ghost use Rattle.vernac_parser.specs.Lawful.{AnswersMeet, CommandAnswersMeet};
 
 /// A token list has at most one tree.
 pub fn one_tree()

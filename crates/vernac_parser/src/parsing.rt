@@ -1,7 +1,8 @@
 //! Terms and commands of a token list.
 
 ghost use Rattle.std.specs.Prelude.{◌≡◌, ◌≤◌, ◌-◌, length, drop};
-ghost use Rattle.vernac_parser.specs.Answers.{IsParsed, IsCommandParsed, IsWithin, next_place, stop_of};
+ghost use Rattle.vernac_parser.specs.Answers.{IsParsed, IsCommandParsed, next_place};
+ghost use Rattle.vernac_parser.specs.Halts.{IsWithin, stop_of};
 
 use crate::cursor::{Halt, Tokens};
 use crate::grammar::{Grammar, MOST_NESTED, nested};
@@ -48,7 +49,8 @@ fn stop_of(tokens: &TokenList, halt: Halt) -> Stop
     }
 }
 
-/// The term that begins at a place of the list, as long as it can be. The time is linear in the tokens from there.
+/// The term at a place of the list, read up to the first token with which no term begins. It is
+/// refused there where the tokens before that one are no term. The time is linear in the tokens from there.
 pub fn parse_term(alloc: Global, tokens: &TokenList, at: usize) -> Result<Parsed, Stop>
     requires { at ≤ length tokens.now.items }
     ensures { IsParsed tokens.now at result }
