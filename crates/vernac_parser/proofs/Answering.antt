@@ -8,9 +8,10 @@ use Rattle.coq_syntax.specs.Faults.{Fault, term_fault}
 use Rattle.vernac_parser.specs.Parser.{Outcome, unexpected}
 use Rattle.vernac_parser.specs.Parse.{Whole, whole_term}
 use Rattle.vernac_parser.specs.Refusals.{IsBehind, IsUnexpected, IsLimit, NoTree, AtEnd}
-use Rattle.vernac_parser.specs.Meets.{fault_of_term, IsRead, IsRefused, IsAnswer, AnswersMeet}
+use Rattle.vernac_parser.specs.Meets.{fault_of_term, IsRead, IsRefused, IsAnswer}
+use Rattle.vernac_parser.specs.Lawful.{AnswersMeet}
 use Rattle.vernac_parser.proofs.Local
-use Rattle.vernac_parser.proofs.Refused.{is_longest, no_tree, each_limit, Plain}
+use Rattle.vernac_parser.proofs.Refused.{is_longest, no_tree, each_limit, faults_behind, Plain}
 use Rattle.vernac_parser.proofs.Viable.{Read, Partial, Passed, Why, Answers}
 use Rattle.vernac_parser.proofs.Shapes.{Down}
 use Rattle.vernac_parser.proofs.ViableNested.{viable_down}
@@ -36,6 +37,7 @@ met_unexpected i f o r c h = record {
   tree = r.value;
   begun = (r.fits.0, r.spelled [] ∙ ap (λ w. r.used ++ w) (append-nil r.more));
   sound = subst (λ w. IsBehind (length w) (term_fault r.value [])) (append-nil r.more) (h []);
+  each = faults_behind i r.used f.rest f r.parts o c;
   early = at_end f.rest (NoTree IsTermOf r.used) (no_tree i r.used f.rest f r.parts o refl c);
   longest = is_longest i r.used f.rest r.parts (ap Local.stop o) (subst Plain (sym o) c);
 }

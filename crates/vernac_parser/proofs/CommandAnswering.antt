@@ -7,10 +7,11 @@ use Rattle.coq_syntax.specs.Commands.{IsCommandOf, command_fault}
 use Rattle.vernac_parser.specs.Parser.{Outcome, unexpected}
 use Rattle.vernac_parser.specs.ParseCommand.{whole_command}
 use Rattle.vernac_parser.specs.Refusals.{IsBehind, IsUnexpected, IsLimit, NoTree, AtEnd}
-use Rattle.vernac_parser.specs.MeetsWhole.{IsRefusedWhole, IsWholeAnswer, CommandAnswersMeet}
+use Rattle.vernac_parser.specs.MeetsWhole.{IsRefusedWhole, IsWholeAnswer}
+use Rattle.vernac_parser.specs.Lawful.{CommandAnswersMeet}
 use Rattle.vernac_parser.proofs.Viable.{Read, Partial, Passed, Why, Answers}
 use Rattle.vernac_parser.proofs.CommandFaults.{spelled_alone, command_faults, plain, fault_alone}
-use Rattle.vernac_parser.proofs.CommandRefused.{is_longest, no_command_at_end, each_limit}
+use Rattle.vernac_parser.proofs.CommandRefused.{is_longest, no_command_at_end, each_limit, faults_behind}
 use Rattle.vernac_parser.proofs.ViableCommands.{WholeCommand, viable_command}
 
 at_end : (rest : List Token) (P : Type 0) → (rest ≡ [] → P) → AtEnd rest P
@@ -32,6 +33,7 @@ met_unexpected i f o r c h = record {
   tree = r.value;
   begun = (r.fits, sym (spelled_alone r.value) ∙ r.spelled [] ∙ ap (λ w. r.used ++ w) (append-nil r.more));
   sound = subst (λ w. IsBehind (length w) (command_fault r.value)) (append-nil r.more) (subst (IsBehind (length (r.more ++ []))) (fault_alone r.value) (h []));
+  each = faults_behind i r.used f.rest f r.parts o c;
   longest = is_longest i r.used f.rest f r.parts o refl c;
   early = at_end f.rest (NoTree IsCommandOf r.used) (λ e. no_command_at_end i r.used f (r.parts ∙ ap (λ w. r.used ++ w) e) o c);
 }

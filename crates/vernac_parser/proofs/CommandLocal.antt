@@ -15,7 +15,7 @@ use Rattle.vernac_parser.specs.Parse.{Rule, Whole, Checks, nested, groups, annot
 use Rattle.vernac_parser.specs.CommandWords.{word_of_text, word_at}
 use Rattle.vernac_parser.specs.ParseCommand.{keyword, begins_constructor, with_constructor, assume, define, state, constructor, barred, first_constructor, constructors, inductive, check, by_word, row}
 use Rattle.vernac_parser.proofs.SignLaws.{same_sign}
-use Rattle.vernac_parser.proofs.Local.{stop, moved, Grade, Two, One, Ended, Agrees, Allowed, Local, local_pure, local_refuse, local_bind, local_choose, local_taken}
+use Rattle.vernac_parser.proofs.Local.{stop, moved, Grade, Same, One, Ended, Agrees, Allowed, Local, local_pure, local_refuse, local_bind, local_choose, local_taken}
 use Rattle.vernac_parser.proofs.Taking.{Taken, Limit, Takes, moves, takes_bind, takes_first, takes_second, local_repeated}
 use Rattle.vernac_parser.proofs.LocalRules.{takes_sign, only, local_when, local_nested, identifier_nested, local_groups, local_annotation}
 
@@ -130,17 +130,13 @@ module _ (c : Checks) (n : ℕ) where
       by (Err f) (inl h) s = let size : length f.rest ≡ length i = ap length s in omega arith
       by (Err f) (inr h) s = h
 
-word_of_two : (v : List Token) → word_at (front 2 v) ≡ word_at v
-word_of_two [] = refl
-word_of_two (t ∷ w) = refl
-
 word_of_one : (v : List Token) → word_at (front 1 v) ≡ word_at v
 word_of_one [] = refl
 word_of_one (t ∷ w) = refl
 
 words_alike : (g : Grade) (u v v' : List Token) → Agrees g v v' → (word_at (u ++ v) ≡ word_at (u ++ v')) ⊎ ((u ≡ []) × (v' ≡ []))
 words_alike g (t ∷ u) v v' a = inl refl
-words_alike Two [] v v' a = inl (sym (word_of_two v) ∙ ap word_at a ∙ word_of_two v')
+words_alike Same [] v v' a = inl (sym (word_of_one v) ∙ ap word_at a.0 ∙ word_of_one v')
 words_alike One [] v v' a = inl (sym (word_of_one v) ∙ ap word_at a ∙ word_of_one v')
 words_alike Ended [] v v' a = inr (refl, a)
 

@@ -1,5 +1,5 @@
 -- At a refusal no command goes on, and a limit is passed in each command that begins so.
-use Rattle.std.proofs.Common.{◌≡◌, ℕ, suc, ◌==◌, Bool, true, false, Option, None, Some, Ok, Err, List, [], ◌∷◌, ◌++◌, length, take, refl, sym, ◌∙◌, ap, subst, arith, append_assoc, append-nil}
+use Rattle.std.proofs.Common.{◌≡◌, ℕ, ◌==◌, Bool, true, false, Option, None, Some, Ok, Err, List, [], ◌∷◌, ◌++◌, length, ◌<◌, ◌≤◌, inl, inr, refl, sym, ◌∙◌, ap, subst, arith, append_assoc, append-nil}
 use Rattle.coq_syntax.specs.declared.token.Token.{Token}
 use Rattle.coq_syntax.specs.CommandTrees.{Command}
 use Rattle.coq_syntax.specs.Limits.{most_nested, too_deep}
@@ -8,9 +8,9 @@ use Rattle.coq_syntax.specs.Commands.{IsCommandOf, command_fault}
 use Rattle.vernac_parser.specs.Parser.{Outcome, and_then, pure, unexpected}
 use Rattle.vernac_parser.specs.Parse.{standard, nested}
 use Rattle.vernac_parser.specs.ParseCommand.{row, ended, command, whole_command}
-use Rattle.vernac_parser.specs.Refusals.{IsLongest, NoTree}
+use Rattle.vernac_parser.specs.Refusals.{IsBehind, IsAssigned, IsLongest, NoTree}
 use Rattle.vernac_parser.proofs.Answered.{answered}
-use Rattle.vernac_parser.proofs.Local.{stop, moved, Grade, Two, One, Ended, Agrees, Fits, Allowed}
+use Rattle.vernac_parser.proofs.Local.{stop, moved, Grade, Same, One, Ended, Agrees, Fits, Allowed, Longer, longer, assigned_behind, either}
 use Rattle.vernac_parser.proofs.Refused.{Sound, equal_of, unequal_of}
 use Rattle.vernac_parser.proofs.CommandFaults.{spelled_alone, fault_alone, standard_command, sound_command}
 use Rattle.vernac_parser.proofs.CommandComplete.{command_read}
@@ -36,7 +36,7 @@ whole_row i = refl
 
 -- the tokens behind a place where a token stands
 Filled : Grade → Type 0
-Filled Two = Unit {0}
+Filled Same = Unit {0}
 Filled One = Unit {0}
 Filled Ended = ⊥
 
@@ -46,10 +46,10 @@ refusal code rest = Err (record { code = code; rest = rest })
 left_refused : (g : Grade) (y : Command) (r v' : List Token) (f : Fault) → Filled g → finish y r ≡ Err f → Agrees g r v' → finish y v' ≡ refusal f.code v'
 unfolding Filled refusal
 left_refused g y [] v' f k e a = absurd (cc)
-left_refused Two y (t ∷ w) [] f k e a = absurd (let size : suc (length (take 1 w)) ≡ 0 = ap length a in omega arith)
+left_refused Same y (t ∷ w) [] f k e a = absurd (let size : 1 ≡ 0 = ap length a.0 in omega arith)
 left_refused One y (t ∷ w) [] f k e a = absurd (let size : 1 ≡ 0 = ap length a in omega arith)
 left_refused Ended y (t ∷ w) v' f k e a = absurd k
-left_refused Two y (t ∷ w) (t' ∷ w') f k e a = let c : unexpected ≡ f.code = ap (code_of) e in ap (λ c. refusal c (t' ∷ w')) c
+left_refused Same y (t ∷ w) (t' ∷ w') f k e a = let c : unexpected ≡ f.code = ap (code_of) e in ap (λ c. refusal c (t' ∷ w')) c
   where
     code_of : Outcome Command → ℕ
     code_of (Ok p) = 0
@@ -110,12 +110,37 @@ unfolding refusal
 the_fault None t code rest e = cc
 the_fault (Some f) t code rest e = cc
 
-pub each_limit : (i u w : List Token) (next : Token) (f : Fault) → i ≡ u ++ next ∷ w → whole_command i ≡ Err f → f.rest ≡ next ∷ w → (others : List Token) (t : Command) → IsCommandOf (u ++ next ∷ others) t → (f.code ≡ too_deep → take 1 others ≡ take 1 w) → command_fault t ≡ Some (record { code = f.code; rest = next ∷ others })
+pub each_limit : (i u w : List Token) (next : Token) (f : Fault) → i ≡ u ++ next ∷ w → whole_command i ≡ Err f → f.rest ≡ next ∷ w → (others : List Token) (t : Command) → IsCommandOf (u ++ next ∷ others) t → (f.code ≡ too_deep → IsAssigned others → IsAssigned w) → command_fault t ≡ Some (record { code = f.code; rest = next ∷ others })
 unfolding Filled
 each_limit i u w next f h o s others t tree deep = by (f.code == too_deep) refl
   where
     by : (b : Bool) → (f.code == too_deep) ≡ b → command_fault t ≡ Some (record { code = f.code; rest = next ∷ others })
-    by true e =
-        let near : next ∷ take 1 w ≡ next ∷ take 1 others = ap (λ x. next ∷ x) (sym (deep (equal_of f.code too_deep e))) in
-        the_fault (command_fault t) t f.code (next ∷ others) (sym (complete_command t (u ++ next ∷ others) tree) ∙ refused_same Two i (u ++ next ∷ others) u (next ∷ w) (next ∷ others) f tt o h refl s tt near)
+    by true e = the_fault (command_fault t) t f.code (next ∷ others) (sym (complete_command t (u ++ next ∷ others) tree) ∙ refused_same Same i (u ++ next ∷ others) u (next ∷ w) (next ∷ others) f tt o h refl s tt (refl, deep (equal_of f.code too_deep e)))
     by false e = the_fault (command_fault t) t f.code (next ∷ others) (sym (complete_command t (u ++ next ∷ others) tree) ∙ refused_same One i (u ++ next ∷ others) u (next ∷ w) (next ∷ others) f tt o h refl s (unequal_of f.code too_deep e) refl)
+
+-- what was read stands before the refusal
+row_cut : (i : List Token) (f : Fault) (o : Outcome Command) → the_row i ≡ o → and_then o finish ≡ Err f → (u : List Token) × (i ≡ u ++ f.rest)
+row_cut i f (Err e) o w = let same : e ≡ f = cc in (((local_row standard most_nested).cut i).0, ((local_row standard most_nested).cut i).1 ∙ ap (λ x. ((local_row standard most_nested).cut i).0 ++ stop x) o ∙ ap (λ x. ((local_row standard most_nested).cut i).0 ++ x.rest) same)
+row_cut i f (Ok (y, r)) o w = (((local_row standard most_nested).cut i).0, ((local_row standard most_nested).cut i).1 ∙ ap (λ x. ((local_row standard most_nested).cut i).0 ++ stop x) o ∙ ap (λ x. ((local_row standard most_nested).cut i).0 ++ x) (sym (finish_rest y r f w)))
+
+-- before an unexpected token there is no fault in any command that begins so
+pub faults_behind : (i u rest : List Token) (f : Fault) → i ≡ u ++ rest → whole_command i ≡ Err f → f.code ≡ unexpected → (others : List Token) (t : Command) → IsCommandOf (u ++ others) t → (IsAssigned rest → IsAssigned others) → IsBehind (length others) (command_fault t)
+unfolding Filled refusal
+faults_behind i u rest f h o c others t tree assigned = by (command_fault t) refl (sound_fault t)
+  where
+    code_of : Outcome Command → ℕ
+    code_of (Ok p) = 0
+    code_of (Err f) = f.code
+
+    inside : (g : Fault) → whole_command (u ++ others) ≡ Err g → (g.code ≡ unexpected → ⊥) → length others < length g.rest → ⊥
+    inside g e sound l =
+        let cut : (u' : List Token) × (u ++ others ≡ u' ++ g.rest) = row_cut (u ++ others) g (the_row (u ++ others)) refl (sym (whole_row (u ++ others)) ∙ e) in
+        let parts : Longer u others cut.0 g.rest = longer u others cut.0 g.rest cut.1 l in
+        let there : whole_command i ≡ refusal g.code (parts.first ∷ (parts.back ++ rest)) =
+        refused_same Same (u ++ others) i cut.0 (parts.first ∷ (parts.back ++ others)) (parts.first ∷ (parts.back ++ rest)) g tt e (cut.1 ∙ ap (λ w. cut.0 ++ w) parts.last) (h ∙ ap (λ w. w ++ rest) parts.whole ∙ append_assoc cut.0 (parts.first ∷ parts.back) rest) parts.last tt (refl, assigned_behind parts.back rest others assigned) in
+        let bad : Err f ≡ refusal g.code (parts.first ∷ (parts.back ++ rest)) = sym o ∙ there in
+        sound (sym (ap code_of bad) ∙ c)
+
+    by : (k : Option Fault) → command_fault t ≡ k → Sound k → IsBehind (length others) k
+    by None e sound = tt
+    by (Some g) e sound = elim (either (length g.rest) (length others)) as (λ _. length g.rest ≤ length others) [ inl l ↦ l | inr l ↦ absurd (inside g (complete_command t (u ++ others) tree ∙ ap (λ k. answered k t []) e) sound l) ]

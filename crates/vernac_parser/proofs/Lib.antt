@@ -23,5 +23,6 @@ pub mod CommandLocal
 pub mod CommandRefused
 pub mod ViableCommands
 pub mod CommandAnswering
+pub mod OneAnswer
 pub mod Turns
 pub mod Places

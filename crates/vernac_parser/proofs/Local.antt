@@ -1,5 +1,5 @@
 -- What a rule answers when it stops at a token doesn't depend on what stands behind that token.
-use Rattle.std.proofs.Common.{◌≡◌, ℕ, suc, ◌⊎◌, inl, inr, Bool, true, false, cond, Result, Ok, Err, List, [], ◌∷◌, ◌++◌, length, take, refl, sym, ◌∙◌, ap, subst, arith, append_assoc, length-append}
+use Rattle.std.proofs.Common.{◌≡◌, ℕ, suc, ◌⊎◌, inl, inr, Bool, true, false, cond, Result, Ok, Err, List, [], ◌∷◌, ◌++◌, length, take, refl, sym, ◌∙◌, ap, subst, arith, append_assoc, length-append, drop, ◌<◌, ◌≤◌}
 use Rattle.std.proofs.lemmas.List.{append_cancel_right}
 use Rattle.coq_syntax.specs.declared.token.Token.{Token}
 use Rattle.coq_syntax.specs.declared.words.Word.{Word}
@@ -8,6 +8,7 @@ use Rattle.vernac_parser.specs.declared.sign.Sign.{Sign}
 use Rattle.vernac_parser.specs.declared.sign.Sign.TheVariants as sign
 use Rattle.vernac_parser.specs.Signs.{is_sign, sign_of, sign_at}
 use Rattle.vernac_parser.specs.Parser.{Outcome, Parser, and_then, ◌>>=◌, pure, refuse, refuse_as, choose, unexpected, word_of, taken, number}
+use Rattle.vernac_parser.specs.Refusals.{IsAssigned}
 use Rattle.vernac_parser.proofs.Answered.{took, passed}
 
 -- where a parser stopped
@@ -20,18 +21,18 @@ abbrev pub moved : {A : Type 0} → List Token → Outcome A → Outcome A
 moved v (Ok p) = Ok (p.0, v)
 moved v (Err f) = Err (record { code = f.code; rest = v })
 
--- how far what stands behind a place is the same: two tokens, one, or nothing stands there
+-- how far what stands behind a place is the same: the token there, and no `:=` is new behind it; the token; or nothing stands there
 pub data Grade : Type 0 where
-  Two One Ended : Grade
+  Same One Ended : Grade
 
 abbrev pub Agrees : Grade → List Token → List Token → Type 0
-Agrees Two v v' = take 2 v ≡ take 2 v'
+Agrees Same v v' = (take 1 v ≡ take 1 v') × (IsAssigned (drop 1 v') → IsAssigned (drop 1 v))
 Agrees One v v' = take 1 v ≡ take 1 v'
 Agrees Ended v v' = v' ≡ []
 
--- the answers that stay: all where two tokens are the same, those but a nesting too deep where one is, an Ok and an unexpected token at the end
+-- the answers that stay: all, where no `:=` is new; those but a nesting too deep, where the token is the same; an Ok and an unexpected token, at the end
 abbrev pub Fits : Grade → ℕ → Type 0
-Fits Two code = Unit {0}
+Fits Same code = Unit {0}
 Fits One code = code ≡ 11 → ⊥
 Fits Ended code = code ≡ unexpected
 
@@ -49,10 +50,6 @@ pub nil_of : (u v : List Token) → u ++ v ≡ v → u ≡ []
 nil_of [] v e = refl
 nil_of (t ∷ u) v e = absurd (let size : length (t ∷ u ++ v) ≡ length v = ap length e in omega (arith, length-append u v))
 
-sign_of_two : (v : List Token) → sign_at (take 2 v) ≡ sign_at v
-sign_of_two [] = refl
-sign_of_two (t ∷ w) = refl
-
 sign_of_one : (v : List Token) → sign_at (take 1 v) ≡ sign_at v
 sign_of_one [] = refl
 sign_of_one (t ∷ w) = refl
@@ -60,7 +57,7 @@ sign_of_one (t ∷ w) = refl
 -- the next token is the same, or the place is here and nothing stands there
 pub signs_alike : (g : Grade) (u v v' : List Token) → Agrees g v v' → (sign_at (u ++ v) ≡ sign_at (u ++ v')) ⊎ ((u ≡ []) × (v' ≡ []) × (g ≡ Ended))
 signs_alike g (t ∷ u) v v' a = inl refl
-signs_alike Two [] v v' a = inl (sym (sign_of_two v) ∙ ap sign_at a ∙ sign_of_two v')
+signs_alike Same [] v v' a = inl (sym (sign_of_one v) ∙ ap sign_at a.0 ∙ sign_of_one v')
 signs_alike One [] v v' a = inl (sym (sign_of_one v) ∙ ap sign_at a ∙ sign_of_one v')
 signs_alike Ended [] v v' a = inr (refl, a, refl)
 
@@ -187,13 +184,13 @@ module _ {A : Type 0} (f : Token → Result A ℕ) where
 
   one_here : (g : Grade) (v v' : List Token) → stop (one f v) ≡ v → Allowed g (one f v) → Agrees g v v' → one f v' ≡ moved v' (one f v)
   one_here g [] [] s a b = refl
-  one_here Two [] (t ∷ w) s a b = absurd (let size : 0 ≡ suc (length (take 1 w)) = ap length b in omega arith)
+  one_here Same [] (t ∷ w) s a b = absurd (let size : 0 ≡ 1 = ap length b.0 in omega arith)
   one_here One [] (t ∷ w) s a b = absurd (let size : 0 ≡ 1 = ap length b in omega arith)
   one_here Ended [] (t ∷ w) s a b = absurd (let size : suc (length w) ≡ 0 = ap length b in omega arith)
-  one_here Two (t ∷ w) [] s a b = absurd (let size : suc (length (take 1 w)) ≡ 0 = ap length b in omega arith)
+  one_here Same (t ∷ w) [] s a b = absurd (let size : 1 ≡ 0 = ap length b.0 in omega arith)
   one_here One (t ∷ w) [] s a b = absurd (let size : 1 ≡ 0 = ap length b in omega arith)
   one_here Ended (t ∷ w) [] s a b = one_gone t w a (stuck t w (f t) s)
-  one_here Two (t ∷ w) (t' ∷ w') s a b = let e : t ≡ t' = cc in one_token t t' w w' e (stuck t w (f t) s)
+  one_here Same (t ∷ w) (t' ∷ w') s a b = let same : t ∷ [] ≡ t' ∷ [] = b.0 in let e : t ≡ t' = cc in one_token t t' w w' e (stuck t w (f t) s)
   one_here One (t ∷ w) (t' ∷ w') s a b = let e : t ≡ t' = cc in one_token t t' w w' e (stuck t w (f t) s)
   one_here Ended (t ∷ w) (t' ∷ w') s a b = absurd (let size : suc (length w') ≡ 0 = ap length b in omega arith)
 
@@ -244,3 +241,29 @@ number_one is_out code (t ∷ rest) = by (is_sign (sign_of t) sign.Number) (is_o
 
 pub local_number : (is_out : ℕ → Bool) (code : ℕ) → Local (number is_out code)
 local_number is_out code = local_ext (one (λ t. number_of is_out code (is_sign (sign_of t) sign.Number) t)) (number is_out code) (number_one is_out code) (local_one (λ t. number_of is_out code (is_sign (sign_of t) sign.Number) t))
+
+-- ---- two ways to part one list
+
+-- the second part of one of them is the longer
+pub record Longer (u v u' v' : List Token) : Type 0 where
+  pub first : Token
+  pub back : List Token
+  pub last : v' ≡ first ∷ (back ++ v)
+  pub whole : u ≡ u' ++ first ∷ back
+
+pub longer : (u v u' v' : List Token) → u ++ v ≡ u' ++ v' → length v < length v' → Longer u v u' v'
+longer [] v [] v' e l = absurd (let size : length v ≡ length v' = ap length e in omega arith)
+longer (t ∷ u) v [] v' e l = record { first = t; back = u; last = sym e; whole = refl }
+longer [] v (t ∷ u') v' e l = absurd (let size : length v ≡ suc (length (u' ++ v')) = ap length e in omega (arith, length-append u' v'))
+longer (s ∷ u) v (t ∷ u') v' e l =
+    let head : s ≡ t = cc in
+    let tails : u ++ v ≡ u' ++ v' = cc in
+    let inner : Longer u v u' v' = longer u v u' v' tails l in
+    record { first = inner.first; back = inner.back; last = inner.last; whole = ap (λ w. s ∷ w) inner.whole ∙ ap (λ x. x ∷ (u' ++ inner.first ∷ inner.back)) head }
+
+pub assigned_behind : (back v v' : List Token) → (IsAssigned v → IsAssigned v') → IsAssigned (back ++ v) → IsAssigned (back ++ v')
+assigned_behind [] v v' h = h
+assigned_behind (t ∷ back) v v' h = λ e. e
+
+pub either : (m n : ℕ) → (m ≤ n) ⊎ (n < m)
+either m n = grind arith

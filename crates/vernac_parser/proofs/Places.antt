@@ -15,7 +15,8 @@ use Rattle.coq_syntax.specs.CommandTrees.{Command}
 use Rattle.coq_syntax.specs.Commands.{IsCommandOf, command_fault}
 use Rattle.vernac_parser.specs.ParseCommand.{whole_command}
 use Rattle.vernac_parser.specs.MeetsWhole.{IsRefusedWhole, IsWholeAnswer}
-use Rattle.vernac_parser.specs.Answers.{IsParsed, IsCommandParsed, IsWithin, next_place, stop_of}
+use Rattle.vernac_parser.specs.Answers.{IsParsed, IsCommandParsed, next_place}
+use Rattle.vernac_parser.specs.Halts.{IsWithin, stop_of}
 use Rattle.vernac_parser.proofs.Answering.{answers_meet}
 use Rattle.vernac_parser.proofs.CommandAnswering.{answers_meet as commands_meet}
 

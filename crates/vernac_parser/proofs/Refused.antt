@@ -1,17 +1,17 @@
 -- Behind what was read, and at an unexpected token, no tree goes on; and a limit is passed in each tree.
-use Rattle.std.proofs.Common.{◌≡◌, ℕ, zero, suc, ◌==◌, Bool, true, false, cond, Option, None, Some, Ok, Err, List, [], ◌∷◌, ◌++◌, take, refl, sym, ◌∙◌, ap, subst, arith, append_assoc, append-nil}
+use Rattle.std.proofs.Common.{◌≡◌, ℕ, zero, suc, ◌==◌, Bool, true, false, cond, Option, None, Some, Ok, Err, List, [], ◌∷◌, ◌++◌, length, ◌<◌, ◌≤◌, inl, inr, refl, sym, ◌∙◌, ap, subst, arith, append_assoc, append-nil, length-append}
 use Rattle.coq_syntax.specs.declared.token.Token.{Token}
 use Rattle.coq_syntax.specs.Trees.{Term, Forall, Fun, Let, Arrow, Or, And, Not, Equal, Apply, Name, PropSort, SetSort, TypeSort, TypeAt, Numeral, Parenthesized, Binders, Names, Groups, GroupList, NoGroup, Group, Annotation, Untyped, Typed, Arguments, NoArgument, Positional, Given}
 use Rattle.coq_syntax.specs.Spelled.{spells}
-use Rattle.coq_syntax.specs.Grammar.{level, IsTermOf}
+use Rattle.coq_syntax.specs.Grammar.{level, IsTerm, IsTermOf}
 use Rattle.coq_syntax.specs.Limits.{open_level, most_nested, too_deep}
 use Rattle.coq_syntax.specs.Faults.{Fault, first, nested, value_of, fault, binders_fault, groups_fault, annotation_fault, arguments_fault, term_fault}
 use Rattle.vernac_parser.specs.Parser.{Outcome, unexpected}
 use Rattle.vernac_parser.specs.Parse.{standard, Whole, whole_term}
-use Rattle.vernac_parser.specs.Refusals.{IsLongest, NoTree}
+use Rattle.vernac_parser.specs.Refusals.{IsBehind, IsAssigned, IsLongest, NoTree}
 use Rattle.vernac_parser.proofs.Answered.{answered}
 use Rattle.vernac_parser.proofs.Unique.{complete_term}
-use Rattle.vernac_parser.proofs.Local.{stop, moved, Grade, Two, One, Ended, Agrees, Allowed}
+use Rattle.vernac_parser.proofs.Local.{stop, moved, Grade, Same, One, Ended, Agrees, Allowed, Longer, longer, assigned_behind, either}
 use Rattle.vernac_parser.proofs.LocalRules.{local_nested}
 
 -- a tree's fault is none of an unexpected token
@@ -123,12 +123,45 @@ pub unequal_of : (a b : ℕ) → (a == b) ≡ false → a ≡ b → ⊥
 unequal_of a b e = grind arith
 
 -- a limit is passed in each tree that begins so
-pub each_limit : (i u w : List Token) (next : Token) (f : Fault) → i ≡ u ++ next ∷ w → whole_term i ≡ Err f → f.rest ≡ next ∷ w → (others : List Token) (t : Term) → IsTermOf (u ++ next ∷ others) t → (f.code ≡ too_deep → take 1 others ≡ take 1 w) → term_fault t [] ≡ Some (record { code = f.code; rest = next ∷ others })
+pub each_limit : (i u w : List Token) (next : Token) (f : Fault) → i ≡ u ++ next ∷ w → whole_term i ≡ Err f → f.rest ≡ next ∷ w → (others : List Token) (t : Term) → IsTermOf (u ++ next ∷ others) t → (f.code ≡ too_deep → IsAssigned others → IsAssigned w) → term_fault t [] ≡ Some (record { code = f.code; rest = next ∷ others })
 each_limit i u w next f h o s others t tree deep = by (f.code == too_deep) refl
   where
     by : (b : Bool) → (f.code == too_deep) ≡ b → term_fault t [] ≡ Some (record { code = f.code; rest = next ∷ others })
-    by true e =
-        let deep_is : f.code ≡ too_deep = equal_of f.code too_deep e in
-        let near : next ∷ take 1 w ≡ next ∷ take 1 others = ap (λ x. next ∷ x) (sym (deep deep_is)) in
-        the_fault (term_fault t []) t _ (same_answer Two i u (next ∷ w) (next ∷ others) t h (ap stop o ∙ s) (subst (Allowed Two) (sym o) tt) near tree ∙ ap (moved (next ∷ others)) o)
+    by true e = the_fault (term_fault t []) t _ (same_answer Same i u (next ∷ w) (next ∷ others) t h (ap stop o ∙ s) (subst (Allowed Same) (sym o) tt) (refl, deep (equal_of f.code too_deep e)) tree ∙ ap (moved (next ∷ others)) o)
     by false e = the_fault (term_fault t []) t _ (same_answer One i u (next ∷ w) (next ∷ others) t h (ap stop o ∙ s) (subst (Allowed One) (sym o) (unequal_of f.code too_deep e)) refl tree ∙ ap (moved (next ∷ others)) o)
+
+-- before an unexpected token there is no fault in any tree that begins so
+pub faults_behind : (i u rest : List Token) (f : Fault) → i ≡ u ++ rest → whole_term i ≡ Err f → f.code ≡ unexpected → (others : List Token) (t : Term) → IsTermOf (u ++ others) t → (IsAssigned rest → IsAssigned others) → IsBehind (length others) (term_fault t [])
+faults_behind i u rest f h o c others t tree assigned = by (term_fault t []) refl (term_sound t [])
+  where
+    there : whole_term (u ++ others) ≡ answered (term_fault t []) t []
+    there = ap whole_term (sym tree.1) ∙ complete_term t [] tree.0 (omega arith)
+
+    code_of : Outcome Term → ℕ
+    code_of (Ok p) = 0
+    code_of (Err f) = f.code
+
+    inside : (g : Fault) → whole_term (u ++ others) ≡ Err g → (g.code ≡ unexpected → ⊥) → length others < length g.rest → ⊥
+    inside g e sound l =
+        let cut : (u' : List Token) × (u ++ others ≡ u' ++ stop (whole_term (u ++ others))) = (local_nested standard most_nested Whole).cut (u ++ others) in
+        let parts : Longer u others cut.0 g.rest = longer u others cut.0 g.rest (cut.1 ∙ ap (λ x. cut.0 ++ stop x) e) l in
+        let moved_there : whole_term i ≡ moved (parts.first ∷ (parts.back ++ rest)) (whole_term (u ++ others)) =
+        (local_nested standard most_nested Whole).same Same (u ++ others) i cut.0 (parts.first ∷ (parts.back ++ others)) (parts.first ∷ (parts.back ++ rest)) (cut.1 ∙ ap (λ x. cut.0 ++ stop x) e ∙ ap (λ w. cut.0 ++ w) parts.last) (h ∙ ap (λ w. w ++ rest) parts.whole ∙ append_assoc cut.0 (parts.first ∷ parts.back) rest) (ap stop e ∙ parts.last) (subst (Allowed Same) (sym e) tt) (refl, assigned_behind parts.back rest others assigned) in
+        let bad : Err f ≡ moved (parts.first ∷ (parts.back ++ rest)) (Err g) = sym o ∙ moved_there ∙ ap (moved (parts.first ∷ (parts.back ++ rest))) e in
+        sound (sym (ap code_of bad) ∙ c)
+
+    by : (k : Option Fault) → term_fault t [] ≡ k → Sound k → IsBehind (length others) k
+    by None e sound = tt
+    by (Some g) e sound = elim (either (length g.rest) (length others)) as (λ _. length g.rest ≤ length others) [ inl l ↦ l | inr l ↦ absurd (inside g (there ∙ ap (λ k. answered k t []) e) sound l) ]
+
+-- a term's fault stands at one of its tokens
+pub fault_within : (t : Term) → IsTerm t → IsBehind (length (spells t [])) (term_fault t [])
+fault_within t h = by (term_fault t []) refl
+  where
+    by : (k : Option Fault) → term_fault t [] ≡ k → IsBehind (length (spells t [])) k
+    by None e = tt
+    by (Some g) e =
+        let answer : whole_term (spells t []) ≡ Err g = complete_term t [] h (omega arith) ∙ ap (λ k. answered k t []) e in
+        let cut : (u : List Token) × (spells t [] ≡ u ++ stop (whole_term (spells t []))) = (local_nested standard most_nested Whole).cut (spells t []) in
+        let parts : length (spells t []) ≡ length (cut.0 ++ g.rest) = ap length (cut.1 ∙ ap (λ o. cut.0 ++ stop o) answer) in
+        omega (arith, parts, length-append cut.0 g.rest)

@@ -1,5 +1,5 @@
 -- Which tokens a rule takes, so that lists end, and that lists and the look behind a `(` are local.
-use Rattle.std.proofs.Common.{◌≡◌, ℕ, zero, suc, ◌+◌, ◌<◌, ◌≤◌, ◌⊎◌, inl, inr, Bool, true, false, cond, Ok, Err, List, [], ◌∷◌, ◌++◌, length, take, refl, sym, ◌∙◌, ap, subst, arith, length-append}
+use Rattle.std.proofs.Common.{◌≡◌, ℕ, zero, suc, ◌+◌, ◌<◌, ◌≤◌, ◌⊎◌, inl, inr, Bool, true, false, cond, Ok, Err, List, [], ◌∷◌, ◌++◌, length, refl, sym, ◌∙◌, ap, subst, arith, length-append}
 use Rattle.coq_syntax.specs.declared.token.Token.{Token}
 use Rattle.coq_syntax.specs.declared.words.Word.{Word}
 use Rattle.coq_syntax.specs.Faults.{value_of}
@@ -8,9 +8,10 @@ use Rattle.vernac_parser.specs.declared.sign.Sign.TheVariants as sign
 use Rattle.vernac_parser.specs.Signs.{is_sign, sign_of, sign_at}
 use Rattle.vernac_parser.specs.Parser.{Outcome, Parser, and_then, ◌>>=◌, pure, refuse, refuse_as, choose, unexpected, word_of, taken, number, many, repeated}
 use Rattle.vernac_parser.specs.Parse.{assigns}
+use Rattle.vernac_parser.specs.Refusals.{IsAssigned}
 use Rattle.vernac_parser.proofs.Answered.{took, passed}
 use Rattle.vernac_parser.proofs.SignLaws.{same_sign, is_same}
-use Rattle.vernac_parser.proofs.Local.{stop, moved, signs_alike, Grade, Two, One, Ended, Agrees, Allowed, Local, local_pure, local_refuse, local_bind, Limited, Moves, local_choose}
+use Rattle.vernac_parser.proofs.Local.{stop, moved, signs_alike, Grade, Same, One, Ended, Agrees, Allowed, Local, local_pure, local_refuse, local_bind, Limited, Moves, local_choose}
 
 -- something is taken, or there is a refusal by a number of these
 abbrev pub Taken : {A : Type 0} → (ℕ → Type 0) → Outcome A → List Token → Type 0
@@ -127,11 +128,6 @@ module _ {A : Type 0} (p q : Parser A) (lp : Local p) (lq : Local q) (takes : (i
   at_identifier (Err f) v (inl t) s a = let size : length f.rest ≡ length v = ap length s in omega arith
   at_identifier (Err f) v (inr t) s a = a t
 
-  assigns_two : (v : List Token) → assigns (take 2 v) ≡ assigns v
-  assigns_two [] = refl
-  assigns_two (t ∷ []) = refl
-  assigns_two (t ∷ s ∷ w) = refl
-
   no_name : (b : Bool) → cond b false false ≡ false
   no_name true = refl
   no_name false = refl
@@ -148,10 +144,21 @@ module _ {A : Type 0} (p q : Parser A) (lp : Local p) (lq : Local q) (takes : (i
   at_place t t' w w' k s a true e = absurd (at_identifier (q (t ∷ w)) (t ∷ w) (takes' (t ∷ w) (same_sign (sign_of t) sign.Identifier (ap (λ x. is_sign (sign_of x) sign.Identifier) k ∙ e))) s a)
   at_place t t' w w' k s a false e = passed _ _ e
 
+  -- no `:=` is new behind the token
+  assigned_still : (b : Bool) (w w' : List Token) → (IsAssigned w' → IsAssigned w) → cond b (is_sign (sign_at w) sign.Assign) false ≡ false → (d : Bool) → is_sign (sign_at w') sign.Assign ≡ d → cond b (is_sign (sign_at w') sign.Assign) false ≡ false
+  assigned_still false w w' k e d g = refl
+  assigned_still true w w' k e false g = g
+  assigned_still true w w' k e true g = absurd (let bad : true ≡ false = sym (k g) ∙ e in cc)
+
+  no_new : (t t' : Token) (w w' : List Token) → t ≡ t' → (IsAssigned w' → IsAssigned w) → assigns (t ∷ w) ≡ false → assigns (t' ∷ w') ≡ false
+  no_new t t' w w' same k e = ap (λ x. cond (is_sign (sign_of x) sign.Identifier) (is_sign (sign_at w') sign.Assign) false) (sym same) ∙ assigned_still (is_sign (sign_of t) sign.Identifier) w w' k e (is_sign (sign_at w') sign.Assign) refl
+
   unassigned : (g : Grade) (u v v' : List Token) → stop (q (u ++ v)) ≡ v → Allowed g (q (u ++ v)) → Agrees g v v' → assigns (u ++ v) ≡ false → assigns (u ++ v') ≡ false
   unassigned g (t ∷ s ∷ u) v v' z a k e = e
   unassigned g (t ∷ []) v v' z a k e = at_name t v v' (weaken g [] v v' (signs_alike g [] v v' k)) e
-  unassigned Two [] v v' z a k e = sym (assigns_two v') ∙ ap assigns (sym k) ∙ assigns_two v ∙ e
+  unassigned Same [] v [] z a k e = refl
+  unassigned Same [] [] (t ∷ w) z a k e = absurd (let size : 0 ≡ 1 = ap length k.0 in omega arith)
+  unassigned Same [] (t ∷ w) (t' ∷ w') z a k e = let head : t ∷ [] ≡ t' ∷ [] = k.0 in let same : t ≡ t' = cc in no_new t t' w w' same k.1 e
   unassigned Ended [] v v' z a k e = ap assigns k
   unassigned One [] v [] z a k e = refl
   unassigned One [] [] (t ∷ w) z a k e = absurd (let size : 0 ≡ 1 = ap length k in omega arith)

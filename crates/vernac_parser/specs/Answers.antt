@@ -10,8 +10,6 @@ use Rattle.coq_syntax.specs.Tokens.{Tokens}
 use Rattle.coq_syntax.specs.Faults.{Fault}
 use Rattle.coq_syntax.specs.CommandTrees.{Command}
 use Rattle.coq_syntax.specs.Commands.{IsCommandOf, command_fault}
-use Rattle.vernac_parser.specs.declared.cursor.Halt.{Halt}
-use Rattle.vernac_parser.specs.declared.cursor.Halt.TheVariants as halt
 use Rattle.vernac_parser.specs.declared.parsing.Parsed.{Parsed}
 use Rattle.vernac_parser.specs.Meets.{IsRead, IsRefused}
 use Rattle.vernac_parser.specs.MeetsWhole.{IsRefusedWhole}
@@ -37,14 +35,3 @@ IsCommandParsed tokens (Ok c) = IsCommandOf tokens.items c × (command_fault c �
 IsCommandParsed tokens (Err (Refused r)) = (f : Fault) × IsRefusedWhole IsCommandOf command_fault tokens.items f × IsRefusal tokens r f
 IsCommandParsed tokens (Err (Out limit)) = ⊥
 IsCommandParsed tokens (Err NoMem) = Unit {0}
-
--- ---- what the code of the rules answers, as it is told to callers
-
--- so many tokens of the list are left where it halted
-abbrev pub IsWithin : Halt → ℕ → Type 0
-IsWithin (halt.Refused code left) count = left ≤ count
-IsWithin halt.NoMem count = Unit {0}
-
-abbrev pub stop_of : Tokens → Halt → Stop
-stop_of tokens (halt.Refused code left) = Refused (record { code = code; place = next_place tokens.period (drop (length tokens.items - left) tokens.items) })
-stop_of tokens halt.NoMem = NoMem

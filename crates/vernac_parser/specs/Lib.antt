@@ -1,7 +1,7 @@
 pub mod Signs
+pub mod Refusals
 pub mod Parser
 pub mod Parse
-pub mod Refusals
 pub mod Numbers
 pub mod Reads
 pub mod Views
@@ -10,4 +10,6 @@ pub mod Meets
 pub mod CommandWords
 pub mod ParseCommand
 pub mod MeetsWhole
+pub mod Lawful
+pub mod Halts
 pub mod Answers

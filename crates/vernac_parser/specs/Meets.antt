@@ -5,14 +5,13 @@ use Rattle.coq_syntax.specs.Trees.{Term}
 use Rattle.coq_syntax.specs.Grammar.{IsTermOf}
 use Rattle.coq_syntax.specs.Faults.{Fault, term_fault}
 use Rattle.vernac_parser.specs.Parser.{Outcome, unexpected}
-use Rattle.vernac_parser.specs.Parse.{whole_term}
 use Rattle.vernac_parser.specs.Refusals.{IsLongest, NoTree, OneTreeOf, IsUnexpected, IsLimit}
 
 -- the fault of a term and its tokens alone
 abbrev pub fault_of_term : Term → Option Fault
 fault_of_term t = term_fault t []
 
--- the tokens are those of this tree, which has no fault and can't be longer, and then these
+-- The tokens are those of this tree, which has no fault, and then these: it is read up to the first token with which no term begins.
 pub record IsRead (tokens : List Token) (t : Term) (rest : List Token) : Type 0 where
   pub used : List Token
   pub parts : tokens ≡ used ++ rest
@@ -22,16 +21,18 @@ pub record IsRead (tokens : List Token) (t : Term) (rest : List Token) : Type 0 
 
 -- the next token is unexpected and those before it are no term, or a limit is passed there
 abbrev pub IsRefused : List Token → Fault → Type 0
-IsRefused tokens f = ((f.code ≡ unexpected) × (why : IsUnexpected IsTermOf fault_of_term tokens f.rest) × NoTree IsTermOf why.used) ⊎ IsLimit IsTermOf fault_of_term tokens f
+IsRefused tokens f =
+    ((f.code ≡ unexpected) × (why : IsUnexpected IsTermOf fault_of_term tokens f.rest) × NoTree IsTermOf why.used)
+    ⊎ IsLimit IsTermOf fault_of_term tokens f
 
 -- the answer to these tokens
 abbrev pub IsAnswer : List Token → Outcome Term → Type 0
 IsAnswer tokens (Ok p) = IsRead tokens p.0 p.1
 IsAnswer tokens (Err f) = IsRefused tokens f
 
--- every list gets such an answer by the rules
-abbrev pub AnswersMeet : Type 0
-AnswersMeet = (tokens : List Token) → IsAnswer tokens (whole_term tokens)
+-- a token list has at most one answer, since the clauses on it leave nothing open
+abbrev pub OneAnswer : Type 0
+OneAnswer = (tokens : List Token) (a b : Outcome Term) → IsAnswer tokens a → IsAnswer tokens b → a ≡ b
 
 -- a token list has at most one tree
 abbrev pub OneTree : Type 0

@@ -2,10 +2,10 @@
 use Rattle.std.specs.Prelude.{◌≡◌, ◌⊎◌, Option, None, Ok, Err, List, []}
 use Rattle.coq_syntax.specs.declared.token.Token.{Token}
 use Rattle.coq_syntax.specs.Faults.{Fault}
+use Rattle.coq_syntax.specs.CommandTrees.{Command}
 use Rattle.coq_syntax.specs.Commands.{IsCommandOf, command_fault}
-use Rattle.vernac_parser.specs.Parser.{Outcome, Parser, unexpected}
+use Rattle.vernac_parser.specs.Parser.{Outcome, unexpected}
 use Rattle.vernac_parser.specs.Refusals.{OneTreeOf, IsUnexpected, IsLimit}
-use Rattle.vernac_parser.specs.ParseCommand.{whole_command}
 
 module _ {A : Type 0} (Is : List Token → A → Type 0) (fault_of : A → Option Fault) where
   -- the next token is unexpected, or a limit is passed there
@@ -17,13 +17,13 @@ module _ {A : Type 0} (Is : List Token → A → Type 0) (fault_of : A → Optio
   IsWholeAnswer tokens (Ok p) = (p.1 ≡ []) × Is tokens p.0 × (fault_of p.0 ≡ None)
   IsWholeAnswer tokens (Err f) = IsRefusedWhole tokens f
 
-  -- every list gets such an answer by this parser
-  abbrev pub WholeAnswersMeet : Parser A → Type 0
-  WholeAnswersMeet p = (tokens : List Token) → IsWholeAnswer tokens (p tokens)
-
--- every list gets such an answer by the rules of commands
-abbrev pub CommandAnswersMeet : Type 0
-CommandAnswersMeet = WholeAnswersMeet IsCommandOf command_fault whole_command
+-- a token list has at most one answer, since the clauses on it leave nothing open
+abbrev pub OneCommandAnswer : Type 0
+OneCommandAnswer =
+    (tokens : List Token) (a b : Outcome Command)
+    → IsWholeAnswer IsCommandOf command_fault tokens a
+    → IsWholeAnswer IsCommandOf command_fault tokens b
+    → a ≡ b
 
 -- a token list has at most one command
 abbrev pub OneCommand : Type 0

@@ -6,6 +6,7 @@ use Rattle.coq_syntax.specs.declared.words.Word.{Word}
 use Rattle.coq_syntax.specs.Faults.{Fault, value_of}
 use Rattle.vernac_parser.specs.declared.sign.Sign.{Sign}
 use Rattle.vernac_parser.specs.declared.sign.Sign.TheVariants as sign
+pub use Rattle.vernac_parser.specs.Refusals.{unexpected}
 use Rattle.vernac_parser.specs.Signs.{is_sign, sign_of, sign_at}
 
 -- what was read and the tokens behind it, or a refusal
@@ -33,10 +34,6 @@ f <$> p = p >>= (λ x. pure (f x))
 -- a refusal at the next token, by its number
 abbrev pub refuse_as : {A : Type 0} → ℕ → Parser A
 refuse_as code = λ i. Err (record { code = code; rest = i })
-
--- the refusal of a token that no rule takes here
-abbrev pub unexpected : ℕ
-unexpected = 10
 
 abbrev pub refuse : {A : Type 0} → Parser A
 refuse = refuse_as unexpected

@@ -1,10 +1,16 @@
 -- Where a refusal stands, for any grammar: which trees a token list has, and the first fault of a tree.
-use Rattle.std.specs.Prelude.{◌≡◌, ℕ, ◌≤◌, Option, None, Some, List, [], ◌∷◌, ◌++◌, length, take}
+use Rattle.std.specs.Prelude.{◌≡◌, ℕ, ◌≤◌, Option, None, Some, List, [], ◌∷◌, ◌++◌, length, true}
 use Rattle.coq_syntax.specs.declared.token.Token.{Token}
 use Rattle.coq_syntax.specs.Limits.{too_deep}
+use Rattle.vernac_parser.specs.declared.sign.Sign.TheVariants.{Assign}
+use Rattle.vernac_parser.specs.Signs.{is_sign, sign_at}
 use Rattle.coq_syntax.specs.Faults.{Fault}
 
--- a fault, if there is one, stands behind all but so many tokens
+-- the refusal of a token that no tree allows, by its number
+abbrev pub unexpected : ℕ
+unexpected = 10
+
+-- a fault, if there is one, is among the last so many tokens
 abbrev pub IsBehind : ℕ → Option Fault → Type 0
 IsBehind left None = Unit {0}
 IsBehind left (Some f) = length f.rest ≤ left
@@ -26,6 +32,10 @@ module _ {A : Type 0} (Is : List Token → A → Type 0) where
   abbrev pub OneTreeOf : Type 0
   OneTreeOf = (tokens : List Token) (a b : A) → Is tokens a → Is tokens b → a ≡ b
 
+-- `:=` stands next, so an identifier before it in an argument is the argument's name and begins no term
+abbrev pub IsAssigned : List Token → Type 0
+IsAssigned tokens = is_sign (sign_at tokens) Assign ≡ true
+
 -- only where no token is left
 abbrev pub AtEnd : List Token → Type 0 → Type 0
 AtEnd [] P = P
@@ -33,7 +43,8 @@ AtEnd (next ∷ rest) P = Unit {0}
 
 module _ {A : Type 0} (Is : List Token → A → Type 0) (fault_of : A → Option Fault) where
   -- No tree allows the next of these tokens, or they end too early: those before it begin a tree without a fault in them,
-  -- and with the next they begin none; at the end they are none.
+  -- and with the next they begin none; at the end they are none. No tree that they begin has a fault in them, unless
+  -- `:=` stands next here and not there.
   pub record IsUnexpected (tokens rest : List Token) : Type 0 where
     pub used : List Token
     pub parts : tokens ≡ used ++ rest
@@ -41,12 +52,13 @@ module _ {A : Type 0} (Is : List Token → A → Type 0) (fault_of : A → Optio
     pub tree : A
     pub begun : Is (used ++ more) tree
     pub sound : IsBehind (length more) (fault_of tree)
+    pub each : (others : List Token) (t : A) → Is (used ++ others) t → (IsAssigned rest → IsAssigned others)
+        → IsBehind (length others) (fault_of t)
     pub longest : IsLongest Is used rest
     pub early : AtEnd rest (NoTree Is used)
 
   -- A limit is passed at the next of these tokens: the tokens up to it begin a tree, and its first fault is this one.
-  -- That is so of each tree which they begin, and for a nesting too deep of each in which the same token stands behind:
-  -- there the token after an identifier tells whether this is the name of an argument or begins a term.
+  -- That is so of each tree which they begin, and for a nesting too deep of each in which `:=` stands behind only if it stands here.
   pub record IsLimit (tokens : List Token) (fault : Fault) : Type 0 where
     pub used : List Token
     pub next : Token
@@ -57,4 +69,6 @@ module _ {A : Type 0} (Is : List Token → A → Type 0) (fault_of : A → Optio
     pub tree : A
     pub begun : Is (used ++ next ∷ more) tree
     pub first : fault_of tree ≡ Some (record { code = fault.code; rest = next ∷ more })
-    pub each : (others : List Token) (t : A) → Is (used ++ next ∷ others) t → (fault.code ≡ too_deep → take 1 others ≡ take 1 after) → fault_of t ≡ Some (record { code = fault.code; rest = next ∷ others })
+    pub each : (others : List Token) (t : A) → Is (used ++ next ∷ others) t
+        → (fault.code ≡ too_deep → IsAssigned others → IsAssigned after)
+        → fault_of t ≡ Some (record { code = fault.code; rest = next ∷ others })

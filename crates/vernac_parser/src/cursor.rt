@@ -121,6 +121,7 @@ impl<'a> Tokens<'a> {
         sign::is_sign(self.sign, sign)
     }
 
+    /// The refusal by this number at the next token.
     pub fn refuse_as(&self, code: u16) -> Halt
         ensures { result ≡ Halt.Refused code (length self.now) }
     {
@@ -130,12 +131,14 @@ impl<'a> Tokens<'a> {
         }
     }
 
+    /// The refusal of the next token, or of an early end.
     pub fn refuse(&self) -> Halt
         ensures { result ≡ Halt.Refused spec.unexpected (length self.now) }
     {
         self.refuse_as(UNEXPECTED)
     }
 
+    /// Takes the next token, which has to be this one.
     pub fn take(&mut self, sign: Sign) -> Result<TokenPlace, Halt>
         ensures { Reads (spec.take sign self.old) result self.new }
     {

@@ -1,7 +1,8 @@
 //! Laws of the grammar and of the rules, for the proofs above this crate.
 
-ghost use Rattle.vernac_parser.specs.Meets.{OneTree, AnswersMeet};
-ghost use Rattle.vernac_parser.specs.MeetsWhole.{OneCommand, CommandAnswersMeet};
+ghost use Rattle.vernac_parser.specs.Meets.{OneTree, OneAnswer};
+ghost use Rattle.vernac_parser.specs.MeetsWhole.{OneCommand, OneCommandAnswer};
+ghost use Rattle.vernac_parser.specs.Lawful.{AnswersMeet, CommandAnswersMeet};
 
 /// A token list has at most one tree.
 pub fn one_tree()
@@ -21,4 +22,14 @@ pub fn one_command()
 /// By the rules a token list is the one command, or gets the leftmost refusal.
 pub fn law_of_commands()
     ensures { CommandAnswersMeet }
+{}
+
+/// What is said of the answer to a term's tokens leaves no choice.
+pub fn one_answer()
+    ensures { OneAnswer }
+{}
+
+/// What is said of the answer to a command's tokens leaves no choice.
+pub fn one_command_answer()
+    ensures { OneCommandAnswer }
 {}

@@ -16,5 +16,7 @@ mod sign;
 #[cfg(test)]
 mod tests;
 
-pub use laws::{law_of_answers, law_of_commands, one_command, one_tree};
+pub use laws::{
+    law_of_answers, law_of_commands, one_answer, one_command, one_command_answer, one_tree,
+};
 pub use parsing::{Parsed, parse_command, parse_term};

@@ -13,8 +13,17 @@ pub enum NumberUse {
     Level,
 }
 
+const GREATEST_NUMERAL: u32 = 200;
+
+const GREATEST_LEVEL: u32 = 1000;
+
 /// A value that is refused everywhere; greater ones are read as this one.
 const BEYOND: u32 = 1001;
+
+/// The refusals of a numeral and of a level.
+const TOO_GREAT: u16 = 12;
+
+const NO_LEVEL: u16 = 13;
 
 fn value_of(digits: &str) -> u32
     ensures { result ≡ min (digits_value 0 digits.now) BEYOND }
@@ -33,8 +42,8 @@ impl NumberUse {
     {
         let value = value_of(digits);
         match self {
-            NumberUse::Numeral => value > 200,
-            NumberUse::Level => value == 0 || value > 1000,
+            NumberUse::Numeral => value > GREATEST_NUMERAL,
+            NumberUse::Level => value == 0 || value > GREATEST_LEVEL,
         }
     }
 
@@ -43,8 +52,8 @@ impl NumberUse {
         ensures { result ≡ spec.refusal self }
     {
         match self {
-            NumberUse::Numeral => 12,
-            NumberUse::Level => 13,
+            NumberUse::Numeral => TOO_GREAT,
+            NumberUse::Level => NO_LEVEL,
         }
     }
 }

@@ -1,7 +1,8 @@
 //! Terms and commands of a token list.
 
 ghost use Rattle.std.specs.Prelude.{◌≡◌, ◌≤◌, ◌-◌, length, drop};
-ghost use Rattle.vernac_parser.specs.Answers.{IsParsed, IsCommandParsed, IsWithin, next_place, stop_of};
+ghost use Rattle.vernac_parser.specs.Answers.{IsParsed, IsCommandParsed, next_place};
+ghost use Rattle.vernac_parser.specs.Halts.{IsWithin, stop_of};
 
 use crate::cursor::{Halt, Tokens};
 use crate::grammar::{Grammar, MOST_NESTED, nested};
@@ -17,7 +18,7 @@ pub struct Parsed {
     pub next: usize,
 }
 
-/// Where a token stands that has so many behind it, itself included; for none it is the period.
+/// Where the first of the last so many tokens stands; for none of them it is the period.
 fn place_of(tokens: &TokenList, left: usize) -> Place
     requires { left ≤ length tokens.now.items }
     ensures { result ≡ next_place tokens.now.period (drop (length tokens.now.items - left) tokens.now.items) }
@@ -48,7 +49,8 @@ fn stop_of(tokens: &TokenList, halt: Halt) -> Stop
     }
 }
 
-/// The term that begins at a place of the list, as long as it can be.
+/// The term at a place of the list, read up to the first token with which no term begins. It is
+/// refused there where the tokens before that one are no term. The time is linear in the tokens from there.
 pub fn parse_term(alloc: Global, tokens: &TokenList, at: usize) -> Result<Parsed, Stop>
     requires { at ≤ length tokens.now.items }
     ensures { IsParsed tokens.now at result }
@@ -64,7 +66,7 @@ pub fn parse_term(alloc: Global, tokens: &TokenList, at: usize) -> Result<Parsed
     }
 }
 
-/// The command that the list is, whole.
+/// The command that the list is, whole. The time is linear in the tokens.
 pub fn parse_command(alloc: Global, tokens: &TokenList) -> Result<Command, Stop>
     ensures { IsCommandParsed tokens.now result }
 {
