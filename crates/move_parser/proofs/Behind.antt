@@ -5,7 +5,7 @@ use Rattle.base_core.specs.declared.refusals.Stop.TheVariants as stop
 use Rattle.coq_syntax.specs.declared.token.Token.{Token}
 use Rattle.coq_syntax.specs.Tokens.{Tokens}
 use Rattle.coq_syntax.specs.Faults.{Fault}
-use Rattle.vernac_parser.specs.Refusals.{IsBehind, IsLongest, NoTree, AtEnd, IsUnexpected, IsLimit}
+use Rattle.vernac_parser.specs.Refusals.{IsBehind, IsAssigned, IsLongest, NoTree, AtEnd, IsUnexpected, IsLimit}
 use Rattle.vernac_parser.specs.MeetsWhole.{IsRefusedWhole}
 use Rattle.move_parser.specs.declared.cursor.Halt.{Halt}
 use Rattle.move_parser.specs.declared.cursor.Halt.TheVariants.{Unexpected, NoMem}
@@ -16,6 +16,8 @@ pub record Behind {A B : Type 0} (Is : List Token → A → Type 0) (fault : A �
   pub into : (i : List Token) (x : B) → Part i x → Is (front ++ i) (build x)
   pub back : (i : List Token) (y : A) → take 1 i ≡ take 1 l → Is (front ++ i) y → (x : B) × Part i x × (y ≡ build x)
   pub same : (x : B) → fault (build x) ≡ part_fault x
+  -- where nothing of the part was read, the faults of other trees are no earlier either
+  pub elsewhere : (i : List Token) (y : A) → Is (front ++ i) y → (IsAssigned l → IsAssigned i) → ((j : List Token) (x : B) → Part j x → (IsAssigned l → IsAssigned j) → IsBehind (length j) (part_fault x)) → IsBehind (length i) (fault y)
 
 -- lists that begin alike
 alike : (l used : List Token) (t : Token) (after more : List Token) → l ≡ used ++ t ∷ after → take 1 (used ++ t ∷ more) ≡ take 1 l
@@ -35,6 +37,13 @@ module _ {A B : Type 0} (Is : List Token → A → Type 0) (fault : A → Option
       let x = b.back (used ++ t ∷ more) begun.1 (alike l used t w more e) (subst (λ i. Is i begun.1) whole begun.2) in
       h (more, x.0, subst (λ i. Part i x.0) (sym (append_assoc used (t ∷ []) more)) x.1)
 
+  each_behind : (used rest : List Token) → l ≡ used ++ rest → ((others : List Token) (x : B) → Part (used ++ others) x → (IsAssigned rest → IsAssigned others) → IsBehind (length others) (part_fault x)) → (others : List Token) (y : A) → Is (front ++ (used ++ others)) y
+      → (IsAssigned rest → IsAssigned others) → IsBehind (length others) (fault y)
+  each_behind [] rest e h others y is a = b.elsewhere others y is (λ k. a (subst IsAssigned e k)) (λ j x part k. h j x part (λ m. k (subst IsAssigned (sym e) m)))
+  each_behind (u ∷ used) rest e h others y is a =
+      let x = b.back (u ∷ (used ++ others)) y (sym (ap (take 1) e)) is in
+      subst (IsBehind (length others)) (sym (ap fault x.2 ∙ b.same x.0)) (h others x.0 x.1 a)
+
   pub unexpected_behind : (rest : List Token) → IsUnexpected Part part_fault l rest → IsUnexpected Is fault (front ++ l) rest
   unexpected_behind rest u = record {
     used = front ++ u.used;
@@ -43,6 +52,7 @@ module _ {A B : Type 0} (Is : List Token → A → Type 0) (fault : A → Option
     tree = build u.tree;
     begun = subst (λ i. Is i (build u.tree)) (sym (append_assoc front u.used u.more)) (b.into (u.used ++ u.more) u.tree u.begun);
     sound = subst (IsBehind (length u.more)) (sym (b.same u.tree)) u.sound;
+    each = λ others y h a. each_behind u.used rest u.parts u.each others y (subst (λ i. Is i y) (append_assoc front u.used others) h) a;
     longest = longest_behind u.used rest u.parts u.longest;
     early = at_end rest (NoTree Part u.used) (NoTree Is (front ++ u.used)) (λ none no_part y h.
         let x = b.back u.used y (ap (take 1) (sym (u.parts ∙ ap (λ i. u.used ++ i) none ∙ append-nil u.used))) h in no_part x.0 x.1) u.early;
@@ -83,14 +93,15 @@ module _ {A B : Type 0} (Is : List Token → A → Type 0) (fault : A → Option
   tail_stopped view seen tokens at from stop.NoMem k s h = tt
 
 -- the next token is unexpected where no part begins with it, though there are parts; at the end nothing is one
-pub unexpected_here : {A : Type 0} (Is : List Token → A → Type 0) (fault : A → Option Fault) (l more : List Token) (tree : A) → Is more tree → IsBehind (length more) (fault tree) → ((i : List Token) (y : A) → take 1 i ≡ take 1 l → Is i y → ⊥) → IsUnexpected Is fault l l
+pub unexpected_here : {A : Type 0} (Is : List Token → A → Type 0) (fault : A → Option Fault) (l more : List Token) (tree : A) → Is more tree → ((i : List Token) (y : A) → Is i y → IsBehind (length i) (fault y)) → ((i : List Token) (y : A) → take 1 i ≡ take 1 l → Is i y → ⊥) → IsUnexpected Is fault l l
 unexpected_here {A} Is fault l more tree h s none = record {
   used = [];
   parts = refl;
   more = more;
   tree = tree;
   begun = h;
-  sound = s;
+  sound = s more tree h;
+  each = λ others y is a. s others y is;
   longest = by l none;
   early = ends l none;
 }

@@ -4,5 +4,7 @@ pub mod Turns
 pub mod Tokens
 pub mod PartLaws
 pub mod Words
+pub mod Farther
 pub mod Terms
 pub mod OneMove
+pub mod Ending

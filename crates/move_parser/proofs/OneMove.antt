@@ -40,7 +40,7 @@ same_pattern (Some p) (Some q) e =
     let end : List Token = written CloseBracket q.closing ∷ [] in
     let whole : pattern_tokens (Some p) ≡ pattern_tokens (Some q) = e in
     let b = case_back q.keyword q.opening q.first q.others end end (Some p) (close_no_name q.closing []) (close_no_bar q.closing []) refl
-        (whole ∙ ap (λ i. written mark.As q.keyword ∷ written mark.OpenBracket q.opening ∷ i) (sym (body-append q.first q.others end))) in
+    (whole ∙ ap (λ i. written mark.As q.keyword ∷ written mark.OpenBracket q.opening ∷ i) (sym (body-append q.first q.others end))) in
     let closing : b.0 ≡ q.closing = written_same CloseBracket b.0 q.closing (heads _ _ _ _ b.1) in
     b.2 ∙ (λ i. Some (record { keyword = q.keyword; opening = q.opening; first = q.first; others = q.others; closing = closing i }))
 

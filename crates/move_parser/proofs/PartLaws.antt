@@ -20,7 +20,7 @@ use Rattle.move_parser.proofs.Tokens.{identifier_same, written_same, name_same, 
 use Rattle.move_parser.proofs.Behind.{Behind, part_halted, unexpected_here}
 
 -- a part that has to begin so, and doesn't
-taken_halted : {A X C : Type 0} (Is : List Token → A → Type 0) (fault : A → Option Fault) (make : X → Token) (view : C → A) (l new more : List Token) (tree : A) (e : Halt) → Is more tree → IsBehind (length more) (fault tree)
+taken_halted : {A X C : Type 0} (Is : List Token → A → Type 0) (fault : A → Option Fault) (make : X → Token) (view : C → A) (l new more : List Token) (tree : A) (e : Halt) → Is more tree → ((i : List Token) (y : A) → Is i y → IsBehind (length i) (fault y))
     → ((i : List Token) (y : A) → Is i y → (x : X) × (w : List Token) × (i ≡ make x ∷ w)) → IsTaken make l (Err e) new → IsPart Is fault view l (Err e)
 taken_halted Is fault make view l new more tree (Unexpected left) h s begins k =
     subst (λ j. IsUnexpected Is fault l j) (sym k.0) (unexpected_here Is fault l more tree h s (λ i y a is. let b = begins i y is in next_of make b.0 i l b.1 a b.2 k.1))
@@ -36,6 +36,7 @@ last_identifier w l = record {
   into = λ i u h. ap (λ j. identifier w ∷ j) h;
   back = λ i y a h. (tt, tails _ _ _ _ h, identifier_same y w (heads _ _ _ _ h));
   same = λ u. refl;
+  elsewhere = λ i y h a e. tt;
 }
 
 -- an item that was looked for and not found
@@ -44,7 +45,7 @@ untaken make old new None none h = h
 untaken make old new (Some x) none h = absurd (none x refl)
 
 pub identifier_halted : {C : Type 0} (view : C → Word) (l new : List Token) (e : Halt) → IsTaken identifier l (Err e) new → IsPart IsIdentifierOf no_fault view l (Err e)
-identifier_halted view l new e k = taken_halted IsIdentifierOf no_fault identifier view l new (identifier x_word ∷ []) x_word e refl tt (λ i y is. (y, [], sym is)) k
+identifier_halted view l new e k = taken_halted IsIdentifierOf no_fault identifier view l new (identifier x_word ∷ []) x_word e refl (λ i y is. tt) (λ i y is. (y, [], sym is)) k
 
 pub identifier_end_halted : {D : Type 0} (seen : D → Word) (l rest : List Token) (w : Word) (e : Halt) → l ≡ identifier w ∷ rest → IsPart IsEndOf no_fault (λ (_ : Unit {0}). tt) rest (Err e) → IsPart IsIdentifierOf no_fault seen l (Err e)
 identifier_end_halted seen l rest w e s h = part_halted IsIdentifierOf no_fault IsEndOf no_fault (identifier w ∷ []) rest (λ _. w) (last_identifier w rest) (λ (_ : Unit {0}). tt) seen l e s h
@@ -54,14 +55,14 @@ some_back w i None h = absurd (cc)
 some_back w i (Some v) h = (tt, tails _ _ _ _ h, ap (λ x. Some x) (identifier_same v w (heads _ _ _ _ h)))
 
 optional_some : (w : Word) (l : List Token) → Behind IsOptionalOf no_fault IsEndOf no_fault (identifier w ∷ []) l (λ _. Some w)
-optional_some w l = record { into = λ i u h. ap (λ j. identifier w ∷ j) h; back = λ i y a h. some_back w i y h; same = λ u. refl }
+optional_some w l = record { into = λ i u h. ap (λ j. identifier w ∷ j) h; back = λ i y a h. some_back w i y h; same = λ u. refl; elsewhere = λ i y h a e. tt }
 
 none_back : (i l : List Token) (y : Option Word) → take 1 i ≡ take 1 l → NoneNext identifier l → optional y ≡ i → (u : Unit {0}) × IsEndOf i u × (y ≡ None)
 none_back i l None a none h = (tt, h, refl)
 none_back i l (Some v) a none h = absurd (next_of identifier v i l [] a (sym h) none)
 
 optional_none : (l : List Token) → NoneNext identifier l → Behind IsOptionalOf no_fault IsEndOf no_fault [] l (λ _. None)
-optional_none l none = record { into = λ i u h. h; back = λ i y a h. none_back i l y a none h; same = λ u. refl }
+optional_none l none = record { into = λ i u h. h; back = λ i y a h. none_back i l y a none h; same = λ u. refl; elsewhere = λ i y h a e. tt }
 
 pub some_end_halted : {D : Type 0} (seen : D → Option Word) (l rest : List Token) (w : Word) (e : Halt) → l ≡ identifier w ∷ rest → IsPart IsEndOf no_fault (λ (_ : Unit {0}). tt) rest (Err e) → IsPart IsOptionalOf no_fault seen l (Err e)
 some_end_halted seen l rest w e s h = part_halted IsOptionalOf no_fault IsEndOf no_fault (identifier w ∷ []) rest (λ _. Some w) (optional_some w rest) (λ (_ : Unit {0}). tt) seen l e s h
@@ -79,7 +80,7 @@ all_back (w ∷ ws) (y ∷ ys) i l a none h =
     (tt, r.1, λ k. first k ∷ r.2 k)
 
 all_identifiers : (ws : List Word) (l : List Token) → NoneNext identifier l → Behind AreIdentifiersOf no_fault IsEndOf no_fault (identifiers ws) l (λ _. ws)
-all_identifiers ws l none = record { into = λ i u h. sym (append-nil (identifiers ws)) ∙ ap (λ j. identifiers ws ++ j) h; back = λ i y a h. all_back ws y i l a none h; same = λ u. refl }
+all_identifiers ws l none = record { into = λ i u h. sym (append-nil (identifiers ws)) ∙ ap (λ j. identifiers ws ++ j) h; back = λ i y a h. all_back ws y i l a none h; same = λ u. refl; elsewhere = λ i y h a e. tt }
 
 pub identifiers_end_halted : {D : Type 0} (seen : D → List Word) (l left rest : List Token) (ws : List Word) (e : Halt) → l ≡ identifiers ws ++ left → rest ≡ left → NoneNext identifier left → IsPart IsEndOf no_fault (λ (_ : Unit {0}). tt) rest (Err e) → IsPart AreIdentifiersOf no_fault seen l (Err e)
 identifiers_end_halted seen l left rest ws e s r none h = part_halted AreIdentifiersOf no_fault IsEndOf no_fault (identifiers ws) left (λ _. ws) (all_identifiers ws left none) (λ (_ : Unit {0}). tt) seen l e s (subst (λ j. IsPart IsEndOf no_fault (λ (_ : Unit {0}). tt) j (Err e)) r h)
@@ -139,7 +140,7 @@ nothing_else i l (Some p) some none a h = next_of (written As) p.keyword i l _ a
 
 pub keyword_halted : {C : Type 0} (view : C → Option Pattern) (l new : List Token) (e : Halt) → (l ≡ [] → ⊥) → IsTaken (written As) l (Err e) new → IsPart IsPatternOf no_fault view l (Err e)
 keyword_halted view l new (Unexpected left) some k =
-    subst (λ j. IsUnexpected IsPatternOf no_fault l j) (sym k.0) (unexpected_here IsPatternOf no_fault l [] None refl tt (λ i y a h. nothing_else i l y some k.1 a h))
+    subst (λ j. IsUnexpected IsPatternOf no_fault l j) (sym k.0) (unexpected_here IsPatternOf no_fault l [] None refl (λ i y is. tt) (λ i y a h. nothing_else i l y some k.1 a h))
 keyword_halted view l new NoMem some k = tt
 
 -- what stands behind `as`
@@ -156,12 +157,12 @@ as_back k i (Some p) h =
     ((p.opening, p.first, p.others, p.closing), tails (written As p.keyword) (written As k) _ _ h, λ j. pattern (key j) p.opening p.first p.others p.closing)
 
 behind_as : (k : TokenPlace) (l : List Token) → Behind IsPatternOf no_fault IsBracketedOf no_fault (written As k ∷ []) l (λ b. pattern k b.0 b.1 b.2 b.3)
-behind_as k l = record { into = λ i b h. ap (λ j. written As k ∷ j) h; back = λ i y a h. as_back k i y h; same = λ b. refl }
+behind_as k l = record { into = λ i b h. ap (λ j. written As k ∷ j) h; back = λ i y a h. as_back k i y h; same = λ b. refl; elsewhere = λ i y h a e. tt }
 
 pub opening_halted : {C : Type 0} (view : C → Option Pattern) (l rest new : List Token) (k : TokenPlace) (e : Halt) → l ≡ written As k ∷ rest → IsTaken (written OpenBracket) rest (Err e) new → IsPart IsPatternOf no_fault view l (Err e)
 opening_halted view l rest new k e s h =
     part_halted IsPatternOf no_fault IsBracketedOf no_fault (written As k ∷ []) rest (λ b. pattern k b.0 b.1 b.2 b.3) (behind_as k rest) (λ b. b) view l e s
-    (taken_halted IsBracketedOf no_fault (written OpenBracket) (λ b. b) rest new (written OpenBracket spare ∷ written CloseBracket spare ∷ []) (spare, [], [], spare) e refl tt (λ i y is. (y.0, _, sym is)) h)
+    (taken_halted IsBracketedOf no_fault (written OpenBracket) (λ b. b) rest new (written OpenBracket spare ∷ written CloseBracket spare ∷ []) (spare, [], [], spare) e refl (λ i y is. tt) (λ i y is. (y.0, _, sym is)) h)
 
 -- what ends a pattern
 abbrev IsClosingOf : List Token → TokenPlace → Type 0
@@ -186,6 +187,7 @@ module _ (k o : TokenPlace) (ns : List BoundName) (cs : List PatternCase) where
     into = λ i c h. ap (λ j. written As k ∷ written OpenBracket o ∷ names ns (cases cs j)) h ∙ ap (λ j. written As k ∷ written OpenBracket o ∷ j) (sym (body-append ns cs i));
     back = λ i y a h. case_back i l y n b a h;
     same = λ c. refl;
+    elsewhere = λ i y h a e. tt;
   }
 
   -- the tokens up to the place of the closing bracket
@@ -198,22 +200,22 @@ module _ (k o : TokenPlace) (ns : List BoundName) (cs : List PatternCase) where
 
   pub closing_halted : {D : Type 0} (seen : D → Option Pattern) (l mid rest rest2 rest3 new : List Token) (e : Halt) → l ≡ written As k ∷ mid → mid ≡ written OpenBracket o ∷ rest → AreNames rest ns rest2 → AreCases rest2 cs rest3 → IsTaken (written CloseBracket) rest3 (Err e) new → IsPart IsPatternOf no_fault seen l (Err e)
   closing_halted seen l mid rest rest2 rest3 new e p q n c h =
-      closing_part (λ p. p) seen l mid rest rest2 rest3 e p q n c (taken_halted IsClosingOf no_fault (written CloseBracket) (λ p. p) rest3 new (written CloseBracket spare ∷ []) spare e refl tt (λ i y is. (y, [], sym is)) h)
+      closing_part (λ p. p) seen l mid rest rest2 rest3 e p q n c (taken_halted IsClosingOf no_fault (written CloseBracket) (λ p. p) rest3 new (written CloseBracket spare ∷ []) spare e refl (λ i y is. tt) (λ i y is. (y, [], sym is)) h)
 
   pub pattern_end_halted : {D : Type 0} (seen : D → Option Pattern) (l mid rest rest2 rest3 rest4 : List Token) (closing : TokenPlace) (e : Halt) → l ≡ written As k ∷ mid → mid ≡ written OpenBracket o ∷ rest → AreNames rest ns rest2 → AreCases rest2 cs rest3 → rest3 ≡ written CloseBracket closing ∷ rest4 → IsPart IsEndOf no_fault (λ (_ : Unit {0}). tt) rest4 (Err e) → IsPart IsPatternOf no_fault seen l (Err e)
   pattern_end_halted seen l mid rest rest2 rest3 rest4 closing e p q n c s h =
       closing_part (λ p. p) seen l mid rest rest2 rest3 e p q n c (part_halted IsClosingOf no_fault IsEndOf no_fault (written CloseBracket closing ∷ []) rest4 (λ _. closing) by (λ (_ : Unit {0}). tt) (λ p. p) rest3 e s h)
     where
       by : Behind IsClosingOf no_fault IsEndOf no_fault (written CloseBracket closing ∷ []) rest4 (λ _. closing)
-      by = record { into = λ i u h. ap (λ j. written CloseBracket closing ∷ j) h; back = λ i y a h. (tt, tails _ _ _ _ h, written_same CloseBracket y closing (heads _ _ _ _ h)); same = λ u. refl }
+      by = record { into = λ i u h. ap (λ j. written CloseBracket closing ∷ j) h; back = λ i y a h. (tt, tails _ _ _ _ h, written_same CloseBracket y closing (heads _ _ _ _ h)); same = λ u. refl; elsewhere = λ i y h a e. tt }
 
 -- ---- a name and a pattern
 
 pub subject_halted : {C : Type 0} (view : C → Word × Option Pattern) (l new : List Token) (e : Halt) → IsTaken identifier l (Err e) new → IsPart IsSubjectOf no_fault view l (Err e)
-subject_halted view l new e k = taken_halted IsSubjectOf no_fault identifier view l new (identifier x_word ∷ []) (x_word, None) e refl tt (λ i y is. (y.0, pattern_tokens y.1, sym is)) k
+subject_halted view l new e k = taken_halted IsSubjectOf no_fault identifier view l new (identifier x_word ∷ []) (x_word, None) e refl (λ i y is. tt) (λ i y is. (y.0, pattern_tokens y.1, sym is)) k
 
 pub subject_pattern_halted : {C D : Type 0} (view : C → Option Pattern) (seen : D → Word × Option Pattern) (l rest : List Token) (w : Word) (e : Halt) → l ≡ identifier w ∷ rest → IsPart IsPatternOf no_fault view rest (Err e) → IsPart IsSubjectOf no_fault seen l (Err e)
 subject_pattern_halted view seen l rest w e s h = part_halted IsSubjectOf no_fault IsPatternOf no_fault (identifier w ∷ []) rest (λ p. (w, p)) by view seen l e s h
   where
     by : Behind IsSubjectOf no_fault IsPatternOf no_fault (identifier w ∷ []) rest (λ p. (w, p))
-    by = record { into = λ i p h. ap (λ j. identifier w ∷ j) h; back = λ i y a h. (y.1, tails _ _ _ _ h, (let first : y.0 ≡ w = identifier_same y.0 w (heads _ _ _ _ h) in λ j. (first j, y.1))); same = λ p. refl }
+    by = record { into = λ i p h. ap (λ j. identifier w ∷ j) h; back = λ i y a h. (y.1, tails _ _ _ _ h, (let first : y.0 ≡ w = identifier_same y.0 w (heads _ _ _ _ h) in λ j. (first j, y.1))); same = λ p. refl; elsewhere = λ i y h a e. tt }

@@ -18,6 +18,9 @@ use Rattle.vernac_parser.specs.Refusals.{IsBehind, NoTree, AtEnd, IsUnexpected}
 use Rattle.vernac_parser.specs.Meets.{fault_of_term, IsRead, IsRefused}
 use Rattle.vernac_parser.specs.MeetsWhole.{IsRefusedWhole}
 use Rattle.vernac_parser.specs.Answers.{IsParsed, next_place}
+use Rattle.vernac_parser.proofs.Refused.{fault_within}
+use Rattle.vernac_parser.proofs.Viable.{behind_more}
+use Rattle.move_parser.proofs.Farther.{faults_farther}
 use Rattle.vernac_parser.proofs.Heads.{head_of, term_begins}
 use Rattle.move_parser.specs.declared.mark.Mark.TheVariants as mark
 use Rattle.move_parser.specs.Marks.{written, is_mark}
@@ -47,6 +50,7 @@ term_left l rest t r some = record {
   more = [];
   tree = t;
   begun = subst (λ i. IsTermOf i t) (sym (append-nil r.used)) r.tree;
+  each = λ others x is a. faults_farther l rest t r others x is a;
   sound = subst (IsBehind 0) (sym r.sound) tt;
   longest = r.longest;
   early = some_left rest (NoTree IsTermOf r.used) some;
@@ -101,14 +105,25 @@ unmarked_back l i (Backward q) t f b a h e = absurd (next_of (written mark.Backw
 pair_back : (i : List Token) (r : Rewriting) (d : Direction) → IsTermOf i r.1 × (r.0 ≡ d) → (t : Term) × IsTermOf i t × (r ≡ (d, t))
 pair_back i r d h = let same : r.0 ≡ d = h.1 in (r.1, h.0, λ k. (same k, r.1))
 
+-- the faults of a rewriting are among its tokens
+direction_longer : (d : Direction) (l : List Token) → length l ≤ length (direction d l)
+direction_longer Unmarked l = omega arith
+direction_longer (Forward p) l = omega arith
+direction_longer (Backward p) l = omega arith
+
+pub rewriting_within : (i : List Token) (r : Rewriting) → IsRewritingOf i r → IsBehind (length i) (fault_of_rewriting r)
+rewriting_within i r h =
+    let size : length (spells r.1 []) ≤ length i = omega (arith, direction_longer r.0 (spells r.1 []), ap length h.1) in
+    behind_more (length (spells r.1 [])) (length i) (fault_of_term r.1) size (fault_within r.1 h.0)
+
 behind_forward : (p : TokenPlace) (l : List Token) → Behind IsRewritingOf fault_of_rewriting IsTermOf fault_of_term (written mark.Forward p ∷ []) l (λ t. (Forward p, t))
-behind_forward p l = record { into = λ i t h. (h.0, ap (λ j. written mark.Forward p ∷ j) h.1); back = λ i r a h. pair_back i r (Forward p) (forward_back p i r.0 r.1 h.0 h.1); same = λ t. refl }
+behind_forward p l = record { into = λ i t h. (h.0, ap (λ j. written mark.Forward p ∷ j) h.1); back = λ i r a h. pair_back i r (Forward p) (forward_back p i r.0 r.1 h.0 h.1); same = λ t. refl; elsewhere = λ i r h a e. e i r.1 (forward_back p i r.0 r.1 h.0 h.1).0 a }
 
 behind_backward : (p : TokenPlace) (l : List Token) → Behind IsRewritingOf fault_of_rewriting IsTermOf fault_of_term (written mark.Backward p ∷ []) l (λ t. (Backward p, t))
-behind_backward p l = record { into = λ i t h. (h.0, ap (λ j. written mark.Backward p ∷ j) h.1); back = λ i r a h. pair_back i r (Backward p) (backward_back p i r.0 r.1 h.0 h.1); same = λ t. refl }
+behind_backward p l = record { into = λ i t h. (h.0, ap (λ j. written mark.Backward p ∷ j) h.1); back = λ i r a h. pair_back i r (Backward p) (backward_back p i r.0 r.1 h.0 h.1); same = λ t. refl; elsewhere = λ i r h a e. e i r.1 (backward_back p i r.0 r.1 h.0 h.1).0 a }
 
 behind_unmarked : (l : List Token) → NoneNext (written mark.Forward) l → NoneNext (written mark.Backward) l → Behind IsRewritingOf fault_of_rewriting IsTermOf fault_of_term [] l (λ t. (Unmarked, t))
-behind_unmarked l f b = record { into = λ i t h. h; back = λ i r a h. pair_back i r Unmarked (unmarked_back l i r.0 r.1 f b a h.0 h.1); same = λ t. refl }
+behind_unmarked l f b = record { into = λ i t h. h; back = λ i r a h. pair_back i r Unmarked (unmarked_back l i r.0 r.1 f b a h.0 h.1); same = λ t. refl; elsewhere = λ i r h a e. rewriting_within i r h }
 
 -- the tokens behind the first
 rest_of : (items rest : List Token) → IsBehindFirst items rest → drop 1 items ≡ rest

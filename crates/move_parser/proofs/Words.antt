@@ -1,5 +1,5 @@
 -- A move is its word and what stands behind the word.
-use Rattle.std.proofs.Common.{◌≡◌, inl, ℕ, Bool, true, false, cond, bytes_eq, Option, None, Some, Result, Err, List, [], ◌∷◌, drop, take, codes, refl, sym, ◌∙◌, ap, subst}
+use Rattle.std.proofs.Common.{◌≡◌, inl, ℕ, Bool, true, false, cond, bytes_eq, Option, None, Some, Result, Err, List, [], ◌∷◌, drop, take, codes, refl, sym, ◌∙◌, ap, subst, ◌≤◌, length, arith}
 use Rattle.std.proofs.lemmas.Slice.Eq.{bytes_eq-Decides}
 use Rattle.base_core.specs.declared.refusals.Stop.{Stop}
 use Rattle.base_core.specs.declared.refusals.Stop.TheVariants as stop
@@ -18,7 +18,10 @@ use Rattle.coq_syntax.specs.Faults.{Fault}
 use Rattle.coq_syntax.specs.Moves.{IsMoveOf, move_fault}
 use Rattle.vernac_parser.specs.Meets.{fault_of_term}
 use Rattle.vernac_parser.specs.Parser.{unexpected}
-use Rattle.vernac_parser.specs.Refusals.{IsUnexpected}
+use Rattle.vernac_parser.specs.Refusals.{IsBehind, IsUnexpected}
+use Rattle.vernac_parser.proofs.Refused.{fault_within}
+use Rattle.vernac_parser.proofs.Viable.{behind_more}
+use Rattle.move_parser.proofs.Terms.{rewriting_within}
 use Rattle.vernac_parser.specs.Answers.{next_place}
 use Rattle.vernac_parser.proofs.SignLaws.{is_token}
 use Rattle.vernac_parser.proofs.Shapes.{spare}
@@ -241,6 +244,7 @@ behind_word w p l = record {
   into = λ i r h. rest_into w p i r h;
   back = λ i m a h. let f = from_word w p i m h in (f.rest, f.read, f.is);
   same = λ r. same_fault w p r;
+  elsewhere = λ i m h a e. let f = from_word w p i m h in subst (IsBehind (length i)) (sym (ap move_fault f.is ∙ same_fault w p f.rest)) (e i f.rest f.read a);
 }
 
 -- ---- the answer to a move, by the answer to what stands behind its word
@@ -332,10 +336,25 @@ is_move_word t None k e = λ w p same. absurd (let bad : None ≡ Some w = e ∙
 abbrev spelled_word : MoveWord × TokenPlace → Token
 spelled_word x = keyword (text_of x.0) x.1
 
+rest_within : (w : MoveWord) (l : List Token) (r : Rest w) → IsRest w l r → IsBehind (length l) (rest_fault w r)
+rest_within Exact l r h = subst (λ i. IsBehind (length i) (fault_of_term r)) h.1 (fault_within r h.0)
+rest_within Apply l r h = subst (λ i. IsBehind (length i) (fault_of_term r)) h.1 (fault_within r h.0)
+rest_within Rewrite l r h = rewriting_within l r h
+rest_within (Plain w) l r h = tt
+
+-- the faults of a move are among its tokens
+move_within : (i : List Token) (m : Move) → IsMoveOf i m → IsBehind (length i) (move_fault m)
+move_within i m h =
+    let b = built m in
+    let c = cut b.word b.place b.rest i (subst (IsMoveOf i) b.is h) in
+    let size : length c.rest ≤ length i = omega (arith, ap length c.parts) in
+    subst (IsBehind (length i)) (sym (ap move_fault b.is ∙ same_fault b.word b.place b.rest))
+    (behind_more (length c.rest) (length i) (rest_fault b.word b.rest) size (rest_within b.word c.rest b.rest c.read))
+
 -- no word stands first
 pub no_word : {D : Type 0} (seen : D → Move) (tokens : Tokens) (e : Stop) (left : List Token) → ((w : MoveWord) (p : TokenPlace) (rest : List Token) → tokens.items ≡ keyword (text_of w) p ∷ rest → ⊥) → left ≡ tokens.items → e ≡ stop.Refused (record { code = unexpected; place = next_place tokens.period left }) → IsTail IsMoveOf move_fault seen tokens 0 (Err e)
 no_word seen tokens e left none here is =
-    rw is (record { code = unexpected; rest = left }, inl (refl, subst (λ i. IsUnexpected IsMoveOf move_fault tokens.items i) (sym here) (unexpected_here IsMoveOf move_fault tokens.items (keyword (codes "split") spare ∷ []) (move.Split spare) (tt, refl) tt by)), (refl, refl))
+    rw is (record { code = unexpected; rest = left }, inl (refl, subst (λ i. IsUnexpected IsMoveOf move_fault tokens.items i) (sym here) (unexpected_here IsMoveOf move_fault tokens.items (keyword (codes "split") spare ∷ []) (move.Split spare) (tt, refl) move_within by)), (refl, refl))
   where
     by : (i : List Token) (m : Move) → take 1 i ≡ take 1 tokens.items → IsMoveOf i m → ⊥
     by i m a f =

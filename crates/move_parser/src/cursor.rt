@@ -155,12 +155,14 @@ impl<'a> Cursor<'a> {
         }
     }
 
+    #[tactic(auto, using(crate::proofs::Ending::end_refused))]
     pub fn end(&self) -> Result<(), Halt<'a>>
         ensures { IsPart IsEndOf no_fault (λ _. tt) self.now result }
     {
-        match self.rest {
-            [] => Ok(()),
-            _ => Err(self.unexpected()),
+        if self.is_at_end() {
+            Ok(())
+        } else {
+            Err(self.unexpected())
         }
     }
 }

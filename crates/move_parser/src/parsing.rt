@@ -16,7 +16,9 @@ use crate::mark::Mark;
 use crate::move_word::{MoveWord, word_of_text};
 use crate::rows::plain;
 use base_core::{Place, Refusal, Stop};
-use coq_syntax::{Direction, MoveForm, MoveTree, SurfaceTerm, Token, TokenKind, TokenList, TokenPlace};
+use coq_syntax::{
+    Direction, MoveForm, MoveTree, SurfaceTerm, Token, TokenKind, TokenList, TokenPlace,
+};
 use std::alloc::Global;
 use vernac_parser::parse_term;
 

@@ -114,7 +114,9 @@ fn move_text(alloc: Global, tree: &MoveTree) -> Result<String, NoMem> {
         MoveForm::Destruct { name, pattern, .. } => subject(alloc, "destruct", name, pattern),
         MoveForm::Induction { name, pattern, .. } => subject(alloc, "induction", name, pattern),
         MoveForm::Rewrite {
-            direction, term, ..
+            direction,
+            term,
+            ..
         } => {
             let arrow = arrow(*direction);
             let term = term_text(alloc, term)?;
@@ -194,10 +196,7 @@ const MOVES: [(&str, &str); 62] = [
     ("destruct x", "destruct x"),
     ("destruct x as []", "destruct x as [ ]"),
     ("destruct x as [|]", "destruct x as [ | ]"),
-    (
-        "destruct x as [a _ | | b]",
-        "destruct x as [ a _ | | b ]",
-    ),
+    ("destruct x as [a _ | | b]", "destruct x as [ a _ | | b ]"),
     ("destruct", "10 at 8 to 9"),
     ("destruct as", "10 at 9 to 11"),
     ("destruct x as", "10 at 13 to 14"),
