@@ -1,0 +1,10 @@
+pub mod Marking
+pub mod Behind
+pub mod Turns
+pub mod Tokens
+pub mod PartLaws
+pub mod Words
+pub mod Farther
+pub mod Terms
+pub mod OneMove
+pub mod Ending
