@@ -1,316 +1,10 @@
+mod printing;
+
 use crate::{parse_command, parse_term};
-use base_core::{NoMem, Place, Stop};
-use coq_syntax::{
-    Annotation, Argument, AssumptionWord, Binders, BoundName, Command, CommandForm, Constructor,
-    Group, Node, StatementWord, SurfaceTerm, tokens,
-};
+use base_core::NoMem;
+use coq_syntax::tokens;
+use printing::{DEEP, command_text, refused, term};
 use std::alloc::Global;
-
-// Trees are shown with parentheses round each node, and those of the text as brackets.
-
-fn names(alloc: Global, names: &[BoundName]) -> Result<String, NoMem> {
-    let mut shown = String::new(alloc);
-    for name in names {
-        match name {
-            BoundName::Named(word) => shown.push_str(word.text.as_str())?,
-            BoundName::Unnamed(_) => shown.push('_')?,
-        }
-        shown.push(' ')?;
-    }
-    Ok(shown)
-}
-
-#[cycle(shown)]
-fn group_list(alloc: Global, groups: &[Group], depth: usize) -> Result<String, NoMem> {
-    let mut shown = String::new(alloc);
-    if depth == 0 {
-        return Ok(shown);
-    }
-    for group in groups {
-        let names = names(alloc, group.names.as_slice())?;
-        let ty = term(alloc, &group.ty, depth - 1)?;
-        let one = format!(in alloc; "({names}: {ty}) ")?;
-        shown.push_str(one.as_str())?;
-    }
-    Ok(shown)
-}
-
-#[cycle(shown)]
-fn binder_list(alloc: Global, binders: &Binders, depth: usize) -> Result<String, NoMem> {
-    if depth == 0 {
-        return Ok(String::new(alloc));
-    }
-    match binders {
-        Binders::Names {
-            names: list,
-            ty,
-            ..
-        } => {
-            let names = names(alloc, list.as_slice())?;
-            let ty = term(alloc, ty, depth - 1)?;
-            Ok(format!(in alloc; "{names}: {ty}")?)
-        }
-        Binders::Groups(groups) => group_list(alloc, groups.as_slice(), depth - 1),
-    }
-}
-
-#[cycle(shown)]
-fn typed(alloc: Global, annotation: &Annotation, depth: usize) -> Result<String, NoMem> {
-    if depth == 0 {
-        return Ok(String::new(alloc));
-    }
-    match annotation {
-        Annotation::Untyped => Ok(String::new(alloc)),
-        Annotation::Typed { ty, .. } => {
-            let ty = term(alloc, ty, depth - 1)?;
-            Ok(format!(in alloc; ": {ty} ")?)
-        }
-    }
-}
-
-#[cycle(shown)]
-fn argument_list(alloc: Global, arguments: &[Argument], depth: usize) -> Result<String, NoMem> {
-    let mut shown = String::new(alloc);
-    if depth == 0 {
-        return Ok(shown);
-    }
-    for argument in arguments {
-        shown.push(' ')?;
-        match argument {
-            Argument::Positional(t) => {
-                let one = term(alloc, t, depth - 1)?;
-                shown.push_str(one.as_str())?;
-            }
-            Argument::Given { name, value, .. } => {
-                let name = name.text.as_str();
-                let value = term(alloc, value, depth - 1)?;
-                let one = format!(in alloc; "[{name} := {value}]")?;
-                shown.push_str(one.as_str())?;
-            }
-        }
-    }
-    Ok(shown)
-}
-
-#[cycle(shown)]
-fn infix(
-    alloc: Global,
-    left: &SurfaceTerm,
-    sign: &str,
-    right: &SurfaceTerm,
-    depth: usize,
-) -> Result<String, NoMem> {
-    if depth == 0 {
-        return Ok(String::new(alloc));
-    }
-    let left = term(alloc, left, depth - 1)?;
-    let right = term(alloc, right, depth - 1)?;
-    Ok(format!(in alloc; "({left} {sign} {right})")?)
-}
-
-#[cycle(shown)]
-fn bound(
-    alloc: Global,
-    word: &str,
-    binders: &Binders,
-    sign: &str,
-    body: &SurfaceTerm,
-    depth: usize,
-) -> Result<String, NoMem> {
-    if depth == 0 {
-        return Ok(String::new(alloc));
-    }
-    let binders = binder_list(alloc, binders, depth - 1)?;
-    let body = term(alloc, body, depth - 1)?;
-    Ok(format!(in alloc; "({word} {binders}{sign} {body})")?)
-}
-
-#[cycle(shown)]
-fn let_in(
-    alloc: Global,
-    name: &BoundName,
-    annotation: &Annotation,
-    value: &SurfaceTerm,
-    body: &SurfaceTerm,
-    depth: usize,
-) -> Result<String, NoMem> {
-    if depth == 0 {
-        return Ok(String::new(alloc));
-    }
-    let name = match name {
-        BoundName::Named(word) => word.text.as_str(),
-        BoundName::Unnamed(_) => "_",
-    };
-    let annotation = typed(alloc, annotation, depth - 1)?;
-    let value = term(alloc, value, depth - 1)?;
-    let body = term(alloc, body, depth - 1)?;
-    Ok(format!(in alloc; "(let {name} {annotation}:= {value} in {body})")?)
-}
-
-#[cycle(shown)]
-fn atom(alloc: Global, node: &Node, depth: usize) -> Result<String, NoMem> {
-    if depth == 0 {
-        return Ok(String::new(alloc));
-    }
-    match node {
-        Node::Name(word) | Node::Numeral(word) => {
-            Ok(String::from_str(alloc, word.text.as_str())?)
-        }
-        Node::PropSort(_) => Ok(String::from_str(alloc, "Prop")?),
-        Node::SetSort(_) => Ok(String::from_str(alloc, "Set")?),
-        Node::TypeSort(_) => Ok(String::from_str(alloc, "Type")?),
-        Node::TypeAt { level, .. } => {
-            let level = level.text.as_str();
-            Ok(format!(in alloc; "Type@{level}")?)
-        }
-        Node::Parenthesized { inner, .. } => {
-            let inner = term(alloc, inner, depth - 1)?;
-            Ok(format!(in alloc; "[{inner}]")?)
-        }
-        Node::Apply { head, arguments } => {
-            let head = term(alloc, head, depth - 1)?;
-            let arguments = argument_list(alloc, arguments.as_slice(), depth - 1)?;
-            Ok(format!(in alloc; "({head}{arguments})")?)
-        }
-        _ => Ok(String::new(alloc)),
-    }
-}
-
-#[cycle(shown)]
-fn term(alloc: Global, shown: &SurfaceTerm, depth: usize) -> Result<String, NoMem> {
-    if depth == 0 {
-        return Ok(String::new(alloc));
-    }
-    match shown.node() {
-        Node::Forall { binders, body, .. } => bound(alloc, "forall", binders, ",", body, depth - 1),
-        Node::Fun { binders, body, .. } => bound(alloc, "fun", binders, "=>", body, depth - 1),
-        Node::Let {
-            name,
-            annotation,
-            value,
-            body,
-            ..
-        } => let_in(alloc, name, annotation, value, body, depth - 1),
-        Node::Arrow { left, right, .. } => infix(alloc, left, "->", right, depth - 1),
-        Node::Or { left, right, .. } => infix(alloc, left, "\\/", right, depth - 1),
-        Node::And { left, right, .. } => infix(alloc, left, "/\\", right, depth - 1),
-        Node::Equal { left, right, .. } => infix(alloc, left, "=", right, depth - 1),
-        Node::Not { operand, .. } => {
-            let operand = term(alloc, operand, depth - 1)?;
-            Ok(format!(in alloc; "(~ {operand})")?)
-        }
-        node => atom(alloc, node, depth - 1),
-    }
-}
-
-const DEEP: usize = 60;
-
-fn constructor_list(alloc: Global, constructors: &[Constructor]) -> Result<String, NoMem> {
-    let mut shown = String::new(alloc);
-    for constructor in constructors {
-        let bar = if constructor.bar.is_some() { "| " } else { "" };
-        let name = constructor.name.text.as_str();
-        let groups = group_list(alloc, constructor.groups.as_slice(), DEEP)?;
-        let annotation = typed(alloc, &constructor.annotation, DEEP)?;
-        let one = format!(in alloc; "{bar}{name} {groups}{annotation}")?;
-        shown.push_str(one.as_str())?;
-    }
-    Ok(shown)
-}
-
-fn assumption(word: AssumptionWord) -> &'static str {
-    match word {
-        AssumptionWord::Axiom => "Axiom",
-        AssumptionWord::Parameter => "Parameter",
-    }
-}
-
-fn statement(word: StatementWord) -> &'static str {
-    match word {
-        StatementWord::Theorem => "Theorem",
-        StatementWord::Lemma => "Lemma",
-    }
-}
-
-fn declared(alloc: Global, form: &CommandForm) -> Result<String, NoMem> {
-    match form {
-        CommandForm::Define {
-            name,
-            groups,
-            annotation,
-            body,
-            ..
-        } => {
-            let name = name.text.as_str();
-            let groups = group_list(alloc, groups.as_slice(), DEEP)?;
-            let annotation = typed(alloc, annotation, DEEP)?;
-            let body = term(alloc, body, DEEP)?;
-            Ok(format!(in alloc; "Definition {name} {groups}{annotation}:= {body}")?)
-        }
-        CommandForm::Inductive {
-            name,
-            groups,
-            arity,
-            constructors,
-            ..
-        } => {
-            let name = name.text.as_str();
-            let groups = group_list(alloc, groups.as_slice(), DEEP)?;
-            let arity = term(alloc, arity, DEEP)?;
-            let constructors = constructor_list(alloc, constructors.as_slice())?;
-            Ok(format!(in alloc; "Inductive {name} {groups}: {arity} := {constructors}")?)
-        }
-        _ => Ok(String::new(alloc)),
-    }
-}
-
-fn command_text(alloc: Global, command: &Command) -> Result<String, NoMem> {
-    match command.form() {
-        CommandForm::Assume { word, name, ty, .. } => {
-            let word = assumption(*word);
-            let name = name.text.as_str();
-            let ty = term(alloc, ty, DEEP)?;
-            Ok(format!(in alloc; "{word} {name} : {ty}")?)
-        }
-        CommandForm::State {
-            word,
-            name,
-            groups,
-            ty,
-            ..
-        } => {
-            let word = statement(*word);
-            let name = name.text.as_str();
-            let groups = group_list(alloc, groups.as_slice(), DEEP)?;
-            let ty = term(alloc, ty, DEEP)?;
-            Ok(format!(in alloc; "{word} {name} {groups}: {ty}")?)
-        }
-        CommandForm::Check { term: shown, .. } => {
-            let shown = term(alloc, shown, DEEP)?;
-            Ok(format!(in alloc; "Check {shown}")?)
-        }
-        CommandForm::Proof(_) => Ok(String::from_str(alloc, "Proof")?),
-        CommandForm::Qed(_) => Ok(String::from_str(alloc, "Qed")?),
-        CommandForm::Defined(_) => Ok(String::from_str(alloc, "Defined")?),
-        CommandForm::Admitted(_) => Ok(String::from_str(alloc, "Admitted")?),
-        CommandForm::Aborted(_) => Ok(String::from_str(alloc, "Abort")?),
-        form => declared(alloc, form),
-    }
-}
-
-fn refused(alloc: Global, stop: Stop) -> Result<String, NoMem> {
-    match stop {
-        Stop::Refused(refusal) => {
-            let code = refusal.code;
-            match refusal.place {
-                Place::Part { from, to } => Ok(format!(in alloc; "{code} at {from} to {to}")?),
-                Place::Whole => Ok(format!(in alloc; "{code}")?),
-            }
-        }
-        Stop::Out(_) => Ok(String::from_str(alloc, "out")?),
-        Stop::NoMem => Err(NoMem),
-    }
-}
 
 // A command, or its refusal.
 fn shown(alloc: Global, body: &str) -> Result<String, NoMem> {
@@ -326,15 +20,18 @@ fn shown(alloc: Global, body: &str) -> Result<String, NoMem> {
     }
 }
 
-// A term at the front of a text and the place behind it, or its refusal.
-fn shown_term(alloc: Global, body: &str) -> Result<String, NoMem> {
+// A term at a place of a text and the place behind it, or its refusal.
+fn shown_term(alloc: Global, body: &str, at: usize) -> Result<String, NoMem> {
     if body.len() > 10000 {
         return Ok(String::new(alloc));
     }
     let mut sentence = String::from_str(alloc, body)?;
     sentence.push('.')?;
     let list = tokens(alloc, sentence.as_str())?;
-    match parse_term(alloc, &list, 0) {
+    if at > list.as_slice().len() {
+        return Ok(String::new(alloc));
+    }
+    match parse_term(alloc, &list, at) {
         Ok(parsed) => {
             let next = parsed.next;
             let tree = term(alloc, &parsed.tree, DEEP)?;
@@ -344,7 +41,7 @@ fn shown_term(alloc: Global, body: &str) -> Result<String, NoMem> {
     }
 }
 
-const TERMS: [(&str, &str); 24] = [
+const TERMS: [(&str, &str); 97] = [
     ("a -> b -> c", "(a -> (b -> c)) 5"),
     ("~ a = b", "(~ (a = b)) 4"),
     ("a /\\ b \\/ c", "((a /\\ b) \\/ c) 5"),
@@ -378,9 +75,103 @@ const TERMS: [(&str, &str); 24] = [
     ("a -> in", "10 at 5 to 7"),
     ("forall x, a", "10 at 8 to 9"),
     ("", "10 at 0 to 1"),
+    (
+        "a -> forall x : A, b -> c",
+        "(a -> (forall x : A, (b -> c))) 10",
+    ),
+    (
+        "a -> fun x : A => b \\/ c",
+        "(a -> (fun x : A=> (b \\/ c))) 10",
+    ),
+    (
+        "a -> let x := b in c /\\ d",
+        "(a -> (let x := b in (c /\\ d))) 10",
+    ),
+    (
+        "a \\/ fun x : A => b -> c",
+        "(a \\/ (fun x : A=> (b -> c))) 10",
+    ),
+    (
+        "a \\/ let x := b in c -> d",
+        "(a \\/ (let x := b in (c -> d))) 10",
+    ),
+    (
+        "a /\\ forall x : A, b \\/ c",
+        "(a /\\ (forall x : A, (b \\/ c))) 10",
+    ),
+    (
+        "a /\\ let x := b in c \\/ d",
+        "(a /\\ (let x := b in (c \\/ d))) 10",
+    ),
+    ("~ forall x : A, b -> c", "(~ (forall x : A, (b -> c))) 9"),
+    ("~ fun x : A => b /\\ c", "(~ (fun x : A=> (b /\\ c))) 9"),
+    ("a ->", "10 at 4 to 5"),
+    ("a \\/", "10 at 4 to 5"),
+    ("a /\\", "10 at 4 to 5"),
+    ("~", "10 at 1 to 2"),
+    ("a =", "10 at 3 to 4"),
+    ("a -> b \\/", "10 at 9 to 10"),
+    ("Type@", "10 at 5 to 6"),
+    ("Type@{", "10 at 6 to 7"),
+    ("Type@{1", "10 at 7 to 8"),
+    ("(", "10 at 1 to 2"),
+    ("(a", "10 at 2 to 3"),
+    ("f (", "10 at 3 to 4"),
+    ("f (x", "10 at 4 to 5"),
+    ("f (x :=", "10 at 7 to 8"),
+    ("f (x := a", "10 at 9 to 10"),
+    ("forall", "10 at 6 to 7"),
+    ("forall x", "10 at 8 to 9"),
+    ("forall x :", "10 at 10 to 11"),
+    ("forall x : A", "10 at 12 to 13"),
+    ("forall x : A,", "10 at 13 to 14"),
+    ("forall (", "10 at 8 to 9"),
+    ("forall (x", "10 at 9 to 10"),
+    ("forall (x :", "10 at 11 to 12"),
+    ("forall (x : A", "10 at 13 to 14"),
+    ("forall (x : A)", "10 at 14 to 15"),
+    ("forall (x : A),", "10 at 15 to 16"),
+    ("fun", "10 at 3 to 4"),
+    ("fun x", "10 at 5 to 6"),
+    ("fun x :", "10 at 7 to 8"),
+    ("fun x : A", "10 at 9 to 10"),
+    ("fun x : A =>", "10 at 12 to 13"),
+    ("fun (x : A)", "10 at 11 to 12"),
+    ("let", "10 at 3 to 4"),
+    ("let x", "10 at 5 to 6"),
+    ("let x :", "10 at 7 to 8"),
+    ("let x : A", "10 at 9 to 10"),
+    ("let x : A :=", "10 at 12 to 13"),
+    ("let x :=", "10 at 8 to 9"),
+    ("let x := a", "10 at 10 to 11"),
+    ("let x := a in", "10 at 13 to 14"),
+    ("-> a", "10 at 0 to 2"),
+    ("a = ~ b", "10 at 4 to 5"),
+    ("a = forall x : A, b", "10 at 4 to 10"),
+    ("forall , a", "10 at 7 to 8"),
+    ("forall (: A), a", "10 at 8 to 9"),
+    ("forall x : , a", "10 at 11 to 12"),
+    ("fun x : A => => a", "10 at 13 to 15"),
+    ("let x in b", "10 at 6 to 8"),
+    ("let x y", "10 at 6 to 7"),
+    ("Type@{}", "10 at 6 to 7"),
+    ("Type@{x}", "10 at 6 to 7"),
+    ("Type@{1 2}", "10 at 8 to 9"),
+    ("f (x := )", "10 at 8 to 9"),
+    ("f (x := a := b)", "10 at 10 to 12"),
+    ("as", "10 at 0 to 2"),
+    ("return", "10 at 0 to 6"),
+    ("forall in : A, b", "10 at 7 to 9"),
+    ("forall x Type : A, b", "10 at 9 to 13"),
+    ("fun as : A => b", "10 at 4 to 6"),
+    ("forall (Set : A), b", "10 at 8 to 11"),
+    ("forall (x fix : A), b", "10 at 10 to 13"),
+    ("let end := a in b", "10 at 4 to 7"),
+    ("f (match := a)", "10 at 3 to 8"),
+    ("f (Prop := a)", "10 at 8 to 10"),
 ];
 
-const COMMANDS: [(&str, &str); 43] = [
+const COMMANDS: [(&str, &str); 96] = [
     ("Check a = b = c", "10 at 12 to 13"),
     ("Check 201", "12 at 6 to 9"),
     ("Check Type@{0}", "13 at 12 to 13"),
@@ -436,12 +227,94 @@ const COMMANDS: [(&str, &str); 43] = [
     ("Admitted", "Admitted"),
     ("Abort", "Abort"),
     ("intro x", "10 at 0 to 5"),
+    (
+        "Theorem a (x : A) (y : B) : c -> d",
+        "Theorem a (x : A) (y : B) : (c -> d)",
+    ),
+    ("Lemma a : b", "Lemma a : b"),
+    ("Axiom", "10 at 5 to 6"),
+    ("Axiom A", "10 at 7 to 8"),
+    ("Parameter", "10 at 9 to 10"),
+    ("Parameter A :", "10 at 13 to 14"),
+    ("Definition", "10 at 10 to 11"),
+    ("Definition a :", "10 at 14 to 15"),
+    ("Definition a :=", "10 at 15 to 16"),
+    ("Definition a : B :=", "10 at 19 to 20"),
+    ("Definition a (", "10 at 14 to 15"),
+    ("Definition a (x", "10 at 15 to 16"),
+    ("Definition a (x :", "10 at 17 to 18"),
+    ("Definition a (x : A)", "10 at 20 to 21"),
+    ("Theorem", "10 at 7 to 8"),
+    ("Theorem a", "10 at 9 to 10"),
+    ("Theorem a :", "10 at 11 to 12"),
+    ("Theorem a (x : A", "10 at 16 to 17"),
+    ("Theorem a (x : A)", "10 at 17 to 18"),
+    ("Theorem a (x : A) :", "10 at 19 to 20"),
+    ("Lemma", "10 at 5 to 6"),
+    ("Lemma a", "10 at 7 to 8"),
+    ("Lemma a :", "10 at 9 to 10"),
+    ("Lemma a (", "10 at 9 to 10"),
+    ("Inductive", "10 at 9 to 10"),
+    ("Inductive a", "10 at 11 to 12"),
+    ("Inductive a :", "10 at 13 to 14"),
+    ("Inductive a (x : A)", "10 at 19 to 20"),
+    ("Inductive a (x : A) :", "10 at 21 to 22"),
+    ("Inductive a : Set := c :", "10 at 24 to 25"),
+    ("Inductive a : Set := c (", "10 at 24 to 25"),
+    ("Inductive a : Set := c (x", "10 at 25 to 26"),
+    ("Inductive a : Set := c (x :", "10 at 27 to 28"),
+    ("Inductive a : Set := c (x : A", "10 at 29 to 30"),
+    ("Inductive a : Set := c (x : A) :", "10 at 32 to 33"),
+    ("Inductive a : Set := c |", "10 at 24 to 25"),
+    ("Inductive a : Set := | c |", "10 at 26 to 27"),
+    ("Check a ->", "10 at 10 to 11"),
+    ("Check f forall x : A, b", "10 at 8 to 14"),
+    ("Parameter as : A", "10 at 10 to 12"),
+    ("Definition with := a", "10 at 11 to 15"),
+    ("Definition _ := a", "10 at 11 to 12"),
+    ("Definition a (let : A) := b", "10 at 14 to 17"),
+    ("Theorem forall : a", "10 at 8 to 14"),
+    ("Theorem a (x end : A) : b", "10 at 13 to 16"),
+    ("Lemma fun : a", "10 at 6 to 9"),
+    ("Inductive Type : Set :=", "10 at 10 to 14"),
+    ("Inductive _ : Set :=", "10 at 10 to 11"),
+    ("Inductive a : Set := let", "10 at 21 to 24"),
+    ("Inductive a : Set := _", "10 at 21 to 22"),
+    ("Inductive a : Set := | Prop", "10 at 23 to 27"),
+    ("Inductive a : Set := c | end : a", "10 at 25 to 28"),
+    ("Inductive a : Set := c (in : A)", "10 at 24 to 26"),
+];
+
+// A text, the place of its tokens where a term is read, and the term.
+const PLACES: [(&str, usize, &str); 14] = [
+    ("a b c", 1, "(b c) 3"),
+    ("a b c", 2, "c 3"),
+    ("exact a -> b", 1, "(a -> b) 4"),
+    ("rewrite -> a = b", 2, "(a = b) 5"),
+    ("destruct x as y", 1, "x 2"),
+    ("(a b) c", 1, "(a b) 3"),
+    ("a ~ b = c", 1, "(~ (b = c)) 5"),
+    ("a forall x : A, b", 1, "(forall x : A, b) 7"),
+    ("a -> in", 2, "10 at 5 to 7"),
+    ("a , b", 1, "10 at 2 to 3"),
+    ("a 201", 1, "12 at 2 to 5"),
+    ("a", 1, "10 at 1 to 2"),
+    ("a b", 2, "10 at 3 to 4"),
+    ("rewrite <-", 2, "10 at 10 to 11"),
 ];
 
 #[test]
 fn terms_are_read(rt: HostRuntime) {
     for (body, wanted) in &TERMS {
-        let found = shown_term(rt.alloc(), body).expect(&rt, "memory");
+        let found = shown_term(rt.alloc(), body, 0).expect(&rt, "memory");
+        assert_eq!(rt; found.as_str(), *wanted);
+    }
+}
+
+#[test]
+fn terms_are_read_at_any_place(rt: HostRuntime) {
+    for (body, at, wanted) in &PLACES {
+        let found = shown_term(rt.alloc(), body, *at).expect(&rt, "memory");
         assert_eq!(rt; found.as_str(), *wanted);
     }
 }
@@ -475,4 +348,66 @@ fn rules_nest_200_deep(rt: HostRuntime) {
     let most = nested_parentheses(rt.alloc(), 199).expect(&rt, "memory");
     let found = shown(rt.alloc(), most.as_str()).expect(&rt, "memory");
     assert!(rt; found.as_str().starts_with("Check [[["));
+}
+
+// A part that stands so many times behind `Check`, and what ends the command.
+const NESTED: [(&str, usize, &str, &str); 37] = [
+    ("(", 200, "201", "11 at 206 to 209"),
+    ("(", 199, "201", "12 at 205 to 208"),
+    ("(", 200, ")", "10 at 206 to 207"),
+    ("(", 200, "", "10 at 206 to 207"),
+    ("(", 199, "f (x]", "11 at 208 to 209"),
+    ("(", 199, "f (x := ]", "10 at 213 to 214"),
+    ("(", 199, "f (x := a]", "11 at 213 to 214"),
+    ("a -> ", 199, "b", "read"),
+    ("a -> ", 200, "b", "11 at 1006 to 1007"),
+    ("a \\/ ", 199, "b", "read"),
+    ("a \\/ ", 200, "b", "11 at 1006 to 1007"),
+    ("a /\\ ", 199, "b", "read"),
+    ("a /\\ ", 200, "b", "11 at 1006 to 1007"),
+    ("a \\/ b /\\ ", 198, "c", "read"),
+    ("a \\/ b /\\ ", 199, "c", "11 at 1996 to 1997"),
+    ("~ ", 199, "b", "read"),
+    ("~ ", 200, "b", "11 at 406 to 407"),
+    ("a = (", 200, "b", "11 at 1006 to 1007"),
+    ("f (", 200, "x", "11 at 606 to 607"),
+    ("f (x := ", 200, "a", "11 at 1606 to 1607"),
+    ("forall x : ", 200, "A", "11 at 2206 to 2207"),
+    ("forall (x : ", 200, "A", "11 at 2406 to 2407"),
+    ("forall x : A, ", 199, "b", "read"),
+    ("forall x : A, ", 200, "b", "11 at 2803 to 2804"),
+    ("fun x : ", 200, "A", "11 at 1606 to 1607"),
+    ("fun x : A => ", 199, "b", "read"),
+    ("fun x : A => ", 200, "b", "11 at 2601 to 2602"),
+    ("let x : ", 200, "A", "11 at 1606 to 1607"),
+    ("let x := ", 200, "a", "11 at 1806 to 1807"),
+    ("let x := a in ", 199, "b", "read"),
+    ("let x := a in ", 200, "b", "11 at 2801 to 2802"),
+    ("a \\/ fun x : A => ", 199, "b", "read"),
+    ("a \\/ fun x : A => ", 200, "b", "11 at 3601 to 3602"),
+    ("a /\\ forall x : A, ", 199, "b", "read"),
+    ("~ let x := a in ", 199, "b", "read"),
+    ("a -> forall x : A, ", 99, "b", "read"),
+    ("a -> forall x : A, ", 100, "b", "11 at 1903 to 1904"),
+];
+
+fn outcome(alloc: Global, part: &str, count: usize, back: &str) -> Result<String, NoMem> {
+    let mut body = String::from_str(alloc, "Check ")?;
+    for _turn in 0..count {
+        body.push_str(part)?;
+    }
+    body.push_str(back)?;
+    let found = shown(alloc, body.as_str())?;
+    if found.as_str().starts_with("Check ") {
+        return Ok(String::from_str(alloc, "read")?);
+    }
+    Ok(found)
+}
+
+#[test]
+fn each_nested_rule_counts(rt: HostRuntime) {
+    for (part, count, back, wanted) in &NESTED {
+        let found = outcome(rt.alloc(), part, *count, back).expect(&rt, "memory");
+        assert_eq!(rt; found.as_str(), *wanted);
+    }
 }

@@ -1,4 +1,4 @@
-use Rattle.vernac_parser.proofs.tests.+shown.Given as goal
+use Rattle.vernac_parser.proofs.tests.printing.+shown.Given as goal
 
 abbrev pub decreases-group_list : goal.decreases-group_list
 decreases-group_list l = l.depth
