@@ -95,13 +95,14 @@ const WAITED: &str = "Content-Length: 1\r\n\r\n-";
 const FAULT: &str =
     "Content-Length: 75\r\n\r\n{\"error\":{\"code\":-32700,\"message\":\"parse error\"},\"id\":null,\"jsonrpc\":\"2.0\"}";
 
-/// What a link gives, by words: `idle`, `fail`, and else bytes, whole or each in a piece of its own.
+/// What a link gives, by words: `idle`, `fail`, `empty`, and else bytes, whole or each in a piece of its own.
 fn script(alloc: Global, words: &[&str], cut: bool) -> Result<ItemList, NoMem> {
     let mut items = ItemList::new(alloc);
     for word in words {
         match *word {
             "idle" => items.push(Item::Idle)?,
             "fail" => items.push(Item::Fail)?,
+            "empty" => items.push(Item::Piece(Bytes::copy(alloc, b"")?))?,
             text => {
                 let size = if cut { 1 } else { 100_000 };
                 for piece in text.as_bytes().chunks(size) {
@@ -114,7 +115,7 @@ fn script(alloc: Global, words: &[&str], cut: bool) -> Result<ItemList, NoMem> {
 }
 
 /// The status of a session and what it wrote.
-fn outcome<C: Ledger>(
+fn outcome_over<C: Ledger>(
     alloc: Global,
     items: ItemList,
     paced: bool,
@@ -134,6 +135,17 @@ fn outcome<C: Ledger>(
     let mut steps: Steps<C> = Steps::new(blank);
     let status = serve(alloc, &mut link, &mut out, paced, &mut machine, &mut steps);
     Ok((status, out.written().to_vec(alloc)?))
+}
+
+/// The same over a ledger of its own.
+fn outcome(
+    alloc: Global,
+    items: ItemList,
+    paced: bool,
+    polls: usize,
+    sink: (usize, u32),
+) -> Result<(u8, Vec<u8>), NoMem> {
+    outcome_over::<Brand>(alloc, items, paced, polls, sink, Blank::new(1))
 }
 
 fn joined(alloc: Global, parts: &[&str]) -> Result<Vec<u8>, NoMem> {
@@ -180,7 +192,7 @@ const ROWS: [Row; 14] = [
     ),
     (&["Content-Length: 2\r\n\r\n[]"], true, 6, &[HEARD]),
     (&["Content-Length: 9\r\n"], true, 6, &[]),
-    (&["", NOTE, ""], true, 6, &[HEARD]),
+    (&["empty", NOTE, "empty"], true, 6, &[HEARD]),
 ];
 
 #[test]
@@ -189,14 +201,7 @@ fn rows_are_written(rt: HostRuntime) -> Result<(), Fail> {
     for (words, paced, status, parts) in ROWS {
         let written = joined(alloc, parts)?;
         for cut in [false, true] {
-            let got = outcome::<Brand>(
-                alloc,
-                script(alloc, words, cut)?,
-                paced,
-                1000,
-                (1000, 0),
-                Blank::new(1),
-            )?;
+            let got = outcome(alloc, script(alloc, words, cut)?, paced, 1000, (1000, 0))?;
             assert_eq!(rt; got.0, status, "at {words:?}");
             assert_eq!(rt; got.1.as_slice(), written.as_slice(), "at {words:?}");
         }
@@ -210,7 +215,7 @@ fn messages_in_one_piece(rt: HostRuntime) -> Result<(), Fail> {
     let mut items = ItemList::new(alloc);
     let bytes = joined(alloc, &[NOTE, NOTE, EXIT, NOTE])?;
     items.push(Item::Piece(Bytes::from_vec(bytes)))?;
-    let got = outcome::<Brand>(alloc, items, false, 10, (1000, 0), Blank::new(1))?;
+    let got = outcome(alloc, items, false, 10, (1000, 0))?;
     assert_eq!(rt; got.0, 1);
     assert_eq!(rt;
         got.1.as_slice(),
@@ -225,13 +230,12 @@ fn what_fails_leaves_a_first_part(rt: HostRuntime) -> Result<(), Fail> {
     let words = [NOTE, "idle", "idle", NOTE, EXIT];
     let parts = [HEARD, WAITED, WAITED, HEARD];
     for count in 0..4u32 {
-        let got = outcome::<Brand>(
+        let got = outcome(
             alloc,
             script(alloc, &words, false)?,
             false,
             1000,
             (1000, count + 1),
-            Blank::new(1),
         )?;
         assert_eq!(rt; got.0, 5, "at {count}");
         assert_eq!(rt;
@@ -242,25 +246,11 @@ fn what_fails_leaves_a_first_part(rt: HostRuntime) -> Result<(), Fail> {
     }
     let whole = joined(alloc, &parts)?;
     for room in 0..whole.len() {
-        let got = outcome::<Brand>(
-            alloc,
-            script(alloc, &words, false)?,
-            false,
-            1000,
-            (room, 0),
-            Blank::new(1),
-        )?;
+        let got = outcome(alloc, script(alloc, &words, false)?, false, 1000, (room, 0))?;
         assert_eq!(rt; got.0, 5, "at {room}");
         assert_eq!(rt; got.1.as_slice(), &whole[..room], "at {room}");
     }
-    let got = outcome::<Brand>(
-        alloc,
-        script(alloc, &words, false)?,
-        false,
-        2,
-        (1000, 0),
-        Blank::new(1),
-    )?;
+    let got = outcome(alloc, script(alloc, &words, false)?, false, 2, (1000, 0))?;
     assert_eq!(rt; got.0, 3);
     assert_eq!(rt;
         got.1.as_slice(),
