@@ -11,8 +11,6 @@ mod members;
 mod messages;
 mod notifications;
 mod requests;
-#[cfg(test)]
-mod tests;
 
 pub use decoding::decode;
 pub use encoding::{encode_error, encode_note, encode_result};

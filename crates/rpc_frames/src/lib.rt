@@ -7,8 +7,6 @@ mod fields;
 mod header;
 mod laws;
 mod stream;
-#[cfg(test)]
-mod tests;
 mod writing;
 
 pub use faults::{FrameFault, FrameStop};

@@ -1,4 +1,5 @@
-use crate::{DecodeFault, ErrorCode, Id, decode, encode_error, encode_note, encode_result};
+//! Bodies and their messages.
+use lsp_types::{DecodeFault, ErrorCode, Id, decode, encode_error, encode_note, encode_result};
 use base_core::{NoMem, Text};
 use serde_json::{Value, json};
 use std::alloc::Global;

@@ -1,4 +1,5 @@
-use crate::{FrameFault, FrameStop, Frames, write_frame};
+//! Frames, however their bytes are cut.
+use rpc_frames::{FrameFault, FrameStop, Frames, write_frame};
 use base_core::NoMem;
 use std::alloc::Global;
 use std::process::Abort;

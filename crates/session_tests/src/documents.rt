@@ -1,3 +1,4 @@
+//! A document, sentence by sentence.
 ghost use Rattle.std.specs.Prelude.{◌≡◌, ◌<◌};
 
 use base_core::{NoMem, Steps};
