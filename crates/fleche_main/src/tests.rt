@@ -1,3 +1,6 @@
-//! What no clause says: the worked examples of the whole program.
+//! What no clause says: the worked examples, over all crates below.
 
+mod documents;
+mod provers;
 mod rows;
+mod sessions;

@@ -6,6 +6,8 @@ mod endings;
 mod machine;
 mod messages;
 mod session;
+#[cfg(test)]
+mod tests;
 mod turns;
 mod write;
 

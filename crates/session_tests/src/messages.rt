@@ -1,6 +1,6 @@
 //! Bodies and their messages.
-use lsp_types::{DecodeFault, ErrorCode, Id, decode, encode_error, encode_note, encode_result};
 use base_core::{NoMem, Text};
+use lsp_types::{DecodeFault, ErrorCode, Id, decode, encode_error, encode_note, encode_result};
 use serde_json::{Value, json};
 use std::alloc::Global;
 use std::process::Abort;
@@ -245,12 +245,12 @@ const NOTES: [(&str, &str, &str); 34] = [
     (
         "textDocument/didChange",
         "{\"textDocument\":{\"uri\":\"u\",\"version\":2147483647},\"contentChanges\":[]}",
-        "Note(DidChange { uri: Text { text: \"u\" }, version: 2147483647, changes: ChangeList { items: [] } })",
+        "Note(DidChange { uri: Text { text: \"u\" }, version: 2147483647, changes: List { items: [] } })",
     ),
     (
         "textDocument/didChange",
         "{\"textDocument\":{\"uri\":\"u\",\"version\":2},\"contentChanges\":[{\"text\":\"b\"},{\"range\":{\"start\":{\"line\":1,\"character\":2},\"end\":{\"line\":3,\"character\":4}},\"text\":\"\",\"rangeLength\":9}]}",
-        "Note(DidChange { uri: Text { text: \"u\" }, version: 2, changes: ChangeList { items: [Change { range: None, text: Text { text: \"b\" } }, Change { range: Some(Range { from_pos: Position { line: 1, character: 2 }, to_pos: Position { line: 3, character: 4 } }), text: Text { text: \"\" } }] } })",
+        "Note(DidChange { uri: Text { text: \"u\" }, version: 2, changes: List { items: [Change { range: None, text: Text { text: \"b\" } }, Change { range: Some(Range { from_pos: Position { line: 1, character: 2 }, to_pos: Position { line: 3, character: 4 } }), text: Text { text: \"\" } }] } })",
     ),
     (
         "textDocument/didChange",

@@ -1,4 +1,3 @@
-//! A document, sentence by sentence.
 ghost use Rattle.std.specs.Prelude.{◌≡◌, ◌<◌};
 
 use base_core::{NoMem, Steps};

@@ -1,4 +1,3 @@
-//! What a sentence costs, and any prover by the same code.
 ghost use Rattle.std.specs.Prelude.{◌≡◌, ◌^◌, ◌-◌, ◌<◌};
 
 use base_core::{Kind, NoMem, Steps};
