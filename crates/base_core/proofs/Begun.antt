@@ -2,11 +2,11 @@
 use Rattle.std.proofs.Common.{◌≡◌, ℕ, Option, None, Some, List, [], ◌++◌, refl, sym, ap, append_assoc, append-nil, arith}
 use Rattle.base_core.specs.Sink.{appended, Begins}
 
-pub appended-appended : (told : Option (List ℕ)) (a b : List ℕ) → appended (appended told a) b ≡ appended told (a ++ b)
+pub appended-appended : {A : Type 0} (told : Option (List A)) (a b : List A) → appended (appended told a) b ≡ appended told (a ++ b)
 appended-appended None a b = refl
 appended-appended (Some told) a b = ap Some (append_assoc told a b)
 
-pub appended-nil : (told : Option (List ℕ)) → appended told [] ≡ told
+pub appended-nil : {A : Type 0} (told : Option (List A)) → appended told [] ≡ told
 appended-nil None = refl
 appended-nil (Some told) = ap Some (append-nil told)
 

@@ -1,5 +1,9 @@
 pub mod Faults
+pub mod Answers
+pub mod Codes
 pub mod Sink
+pub mod Writes
+pub mod Status
 pub mod Files
 pub mod MemSink
 pub mod MemFiles

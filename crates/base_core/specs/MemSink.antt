@@ -13,6 +13,10 @@ sink_bytes s = s.bytes.items
 abbrev pub sink_room : MemSink → ℕ
 sink_room s = s.room
 
+-- how many bytes it takes at most at each call
+abbrev pub sink_most : MemSink → ℕ
+sink_most s = s.most
+
 -- the calls at which it fails
 abbrev pub sink_fails : MemSink → List ℕ
 sink_fails s = s.fails
@@ -29,16 +33,21 @@ sink_faults s = s.faults
 abbrev pub is_listed : ℕ → List ℕ → Bool
 is_listed call fails = list_any (λ listed. listed == call) fails
 
--- one call more, which leaves the room and the list
+-- one call more, which leaves the limits and the list
 pub record IsCalled (old new : MemSink) : Type 0 where
   pub calls : sink_calls new ≡ min (sink_calls old + 1) 4294967295
   pub room : sink_room new ≡ sink_room old
+  pub most : sink_most new ≡ sink_most old
   pub fails : sink_fails new ≡ sink_fails old
+
+-- how many of so many bytes fit
+abbrev pub taken_of : MemSink → ℕ → ℕ
+taken_of s offered = min (min offered (sink_room s - length (sink_bytes s))) (sink_most s)
 
 -- what becomes of so many bytes that are offered: all that fits is taken; it fails at a listed call and
 -- where the room is full
 abbrev pub Puts : Put → ℕ → MemSink → MemSink → Type 0
 Puts (Took n) offered old new =
-    IsCalled old new × (is_listed (sink_calls new) (sink_fails old) ≡ false) × (n ≡ min offered (sink_room old - length (sink_bytes old))) × (sink_faults new ≡ sink_faults old)
+    IsCalled old new × (is_listed (sink_calls new) (sink_fails old) ≡ false) × (n ≡ taken_of old offered) × (sink_faults new ≡ sink_faults old)
 Puts Failed offered old new =
     IsCalled old new × ((is_listed (sink_calls new) (sink_fails old) ≡ true) ⊎ (sink_room old ≤ length (sink_bytes old)))

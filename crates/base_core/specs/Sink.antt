@@ -3,10 +3,10 @@ use Rattle.std.specs.Prelude.{◌≡◌, ℕ, ◌<◌, ◌≤◌, Option, None, 
 use Rattle.base_core.specs.declared.sinks.Put.{Put}
 use Rattle.base_core.specs.declared.sinks.Put.TheVariants.{Took, Failed}
 
--- the told bytes, and then these
-abbrev pub appended : Option (List ℕ) → List ℕ → Option (List ℕ)
-appended None bytes = None
-appended (Some told) bytes = Some (told ++ bytes)
+-- a told list, and then these
+abbrev pub appended : {A : Type 0} → Option (List A) → List A → Option (List A)
+appended None more = None
+appended (Some told) more = Some (told ++ more)
 
 -- of a piece some first bytes were taken, at least one; or the sink failed and took none
 abbrev pub TakesFrom : Put → List ℕ → Option (List ℕ) → Option (List ℕ) → Type 0
@@ -19,3 +19,8 @@ pub record Begins (old new : Option (List ℕ)) (bytes : List ℕ) : Type 0 wher
   pub left : List ℕ
   pub parts : bytes ≡ begun ++ left
   pub grown : new ≡ appended old begun
+
+-- where none failed the count of faults stays
+abbrev pub IsCalmPut : Put → ℕ → ℕ → Type 0
+IsCalmPut (Took n) old new = new ≡ old
+IsCalmPut Failed old new = Unit {0}

@@ -1,5 +1,7 @@
+//! The files of the system.
 ghost use Rattle.std.specs.Prelude.{◌≡◌, ◌≤◌, None, length, vec_len, IfOk};
 ghost use Rattle.std.specs.Result.{IsErrOf};
+ghost use Rattle.base_core.specs.declared.limits.TheConstants.{TEXT_LIMIT};
 
 use crate::{Bytes, FileFault, FileSet, TEXT_LIMIT};
 use std::alloc::Global;
@@ -28,7 +30,7 @@ const PIECE: usize = 65_536;
 
 /// All that a reader still gives, if that is at most `TEXT_LIMIT` bytes.
 fn read_all<F: Read>(alloc: Global, file: &mut F) -> Result<Vec<u8>, FileFault>
-    ensures { IfOk result (λ bytes. vec_len bytes ≤ 1048576) }
+    ensures { IfOk result (λ bytes. vec_len bytes ≤ TEXT_LIMIT) }
 {
     let mut all = Vec::new(alloc);
     let mut piece = [0u8; PIECE];
@@ -50,7 +52,7 @@ fn read_all<F: Read>(alloc: Global, file: &mut F) -> Result<Vec<u8>, FileFault>
 }
 
 fn read_file<R: Files>(rt: &R, alloc: Global, name: &str) -> Result<Bytes, FileFault>
-    ensures { IfOk result (λ bytes. length bytes ≤ 1048576) }
+    ensures { IfOk result (λ bytes. length bytes ≤ TEXT_LIMIT) }
 {
     let Ok(mut file) = fs::open(rt, name) else {
         return Err(FileFault::Failed);

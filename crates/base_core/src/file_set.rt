@@ -1,15 +1,14 @@
+//! The files that the program reads.
 ghost use Rattle.std.specs.Prelude.{◌≡◌, ℕ, Option, List, ◌≤◌, length, IfOk, IfSome};
 ghost use Rattle.std.specs.Result.{IsErrOf};
 ghost use Rattle.base_core.specs.declared.mem_files.FileItem.{FileItem};
+ghost use Rattle.base_core.specs.declared.limits.TheConstants.{TEXT_LIMIT};
 ghost use Rattle.base_core.specs.Faults.{Rose};
-ghost use Rattle.base_core.specs.Files.{IsReadOf, file_at};
+ghost use Rattle.base_core.specs.Files.{IsReadOf, IsCalmRead, file_at};
 
 use crate::Bytes;
 use std::alloc::Global;
 use thiserror::Error;
-
-/// The greatest length of a text, in bytes.
-pub const TEXT_LIMIT: usize = 1_048_576;
 
 /// Why a file's bytes were not given.
 #[derive(Clone, Copy, Debug, PartialEq, Eq, Error)]
@@ -35,7 +34,8 @@ pub trait FileSet {
     fn read(&mut self, alloc: Global, name: &str) -> Result<Bytes, FileFault>
         ensures same { content self.new ≡ content self.old }
         ensures told { IfSome (content self.old) (λ files. IsReadOf (file_at files name.now) result) }
-        ensures bounded { IfOk result (λ bytes. length bytes ≤ 1048576) }
+        ensures bounded { IfOk result (λ bytes. length bytes ≤ TEXT_LIMIT) }
         ensures later { faults self.old ≤ faults self.new }
-        ensures failed { IsErrOf result FileFault.Failed → Rose (faults self.old) (faults self.new) };
+        ensures failed { IsErrOf result FileFault.Failed → Rose (faults self.old) (faults self.new) }
+        ensures calm { IsCalmRead result (faults self.old) (faults self.new) };
 }

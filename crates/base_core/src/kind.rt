@@ -1,5 +1,6 @@
+//! What kind of stretch of a text a sentence is.
 /// What kind of stretch a sentence is.
-#[derive(Clone, Copy, Debug, PartialEq, Eq)]
+#[derive(Clone, Copy, Debug, PartialEq, Eq, Hash)]
 pub enum Kind {
     /// Ends in a period that a blank or the text's end follows.
     Plain,

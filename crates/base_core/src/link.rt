@@ -1,6 +1,7 @@
+//! Where the program reads.
 ghost use Rattle.std.specs.Prelude.{◌≡◌, ℕ, Option, List, ◌≤◌, ◌<◌, length};
 ghost use Rattle.base_core.specs.Faults.{Rose};
-ghost use Rattle.base_core.specs.Link.{Poll, TakenFrom};
+ghost use Rattle.base_core.specs.Link.{Poll, TakenFrom, IsCalmPoll};
 
 /// What a poll of a link answered.
 #[derive(Clone, Copy, Debug, PartialEq, Eq)]
@@ -28,5 +29,6 @@ pub trait Link {
         requires { 0 < length buf.old }
         ensures told { TakenFrom result wait buf.new (polls self.old) (polls self.new) }
         ensures later { faults self.old ≤ faults self.new }
-        ensures failed { result ≡ Taken.Failed → Rose (faults self.old) (faults self.new) };
+        ensures failed { result ≡ Taken.Failed → Rose (faults self.old) (faults self.new) }
+        ensures calm { IsCalmPoll result (faults self.old) (faults self.new) };
 }

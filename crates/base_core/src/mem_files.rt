@@ -1,11 +1,11 @@
-ghost use Rattle.std.specs.Prelude.{◌≡◌, Option, Some, ◌++◌, [], ◌∷◌, OnOk, IsNone};
+//! Files in memory.
+ghost use Rattle.std.specs.Prelude.{◌≡◌, Option, Some, IsNone};
 ghost use Rattle.std.specs.Option.{option_copied};
 ghost use Rattle.base_core.specs.Files.{file_at};
 ghost use Rattle.base_core.specs.MemFiles.{mem_files_content, mem_files_faults};
 
-use crate::{Bytes, FileFault, FileSet, NoMem, TEXT_LIMIT, Text};
+use crate::{Bytes, FileFault, FileSet, List, TEXT_LIMIT, Text};
 use std::alloc::Global;
-use std::marker::Model;
 
 /// A file in memory. One without content is a failure when it is read.
 #[derive(Debug, Drop)]
@@ -14,42 +14,8 @@ pub struct FileItem {
     pub content: Option<Bytes>,
 }
 
-#[derive(Debug, Drop)]
-pub struct FileList {
-    items: Vec<FileItem>,
-}
-
-impl Model for FileList {
-    ghost use Rattle.std.specs.Prelude.{List};
-    ghost use Rattle.base_core.specs.declared.mem_files.FileItem.{FileItem};
-
-    ghost Value = { List FileItem };
-
-    ghost view = { λ a. a.items.items };
-}
-
-impl FileList {
-    pub fn new(alloc: Global) -> FileList
-        ensures { result ≡ [] }
-    {
-        FileList {
-            items: Vec::new(alloc),
-        }
-    }
-
-    pub fn push(&mut self, item: FileItem) -> Result<(), NoMem>
-        ensures { OnOk result (self.new ≡ self.old ++ item ∷ []) }
-    {
-        self.items.push(item)?;
-        Ok(())
-    }
-
-    pub fn as_slice(&self) -> &[FileItem]
-        ensures { result.now ≡ self.now }
-    {
-        self.items.as_slice()
-    }
-}
+/// Files in order. The first of a name counts.
+pub type FileList = List<FileItem>;
 
 /// Files in memory, which tell what they hold.
 #[derive(Debug, Drop)]

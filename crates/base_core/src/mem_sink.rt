@@ -1,6 +1,7 @@
-ghost use Rattle.std.specs.Prelude.{◌≡◌, ◌+◌, ◌^◌, ◌<◌, ◌≤◌, [], length, vec_capacity, IfOk, Some};
+//! A sink in memory, which tells what it was given.
+ghost use Rattle.std.specs.Prelude.{◌≡◌, ◌+◌, ◌-◌, ◌^◌, ◌<◌, ◌≤◌, [], length, vec_capacity, IfOk, Some};
 ghost use Rattle.base_core.specs.Faults.{Rose};
-ghost use Rattle.base_core.specs.Sink.{TakesFrom};
+ghost use Rattle.base_core.specs.Sink.{TakesFrom, IsCalmPut};
 
 use crate::{NoMem, NumberList, Put, Sink};
 use std::alloc::Global;
@@ -10,26 +11,46 @@ use std::alloc::Global;
 pub struct MemSink {
     bytes: Vec<u8>,
     room: usize,
+    most: usize,
     fails: NumberList,
     calls: u32,
     faults: u64,
     ghost reserved: { room ≤ vec_capacity bytes },
+    ghost some: { 0 < most },
 }
 
 impl MemSink {
-    ghost use Rattle.base_core.specs.MemSink.{sink_bytes, sink_room, sink_fails, sink_calls, sink_faults, is_listed};
+    ghost use Rattle.base_core.specs.MemSink.{sink_bytes, sink_room, sink_most, sink_fails, sink_calls, sink_faults, is_listed};
 
     /// Room for so many bytes. The sink fails at the listed calls, numbered from 1, and when the
     /// room is full.
     pub fn new(alloc: Global, room: usize, fails: NumberList) -> Result<MemSink, NoMem>
         ensures empty { IfOk result (λ s. (sink_bytes s ≡ []) × (sink_calls s ≡ 0) × (sink_faults s ≡ 0)) }
         ensures room { IfOk result (λ s. sink_room s ≡ room) }
+        ensures most { IfOk result (λ s. sink_most s ≡ 2 ^ 64 - 1) }
+        ensures fails { IfOk result (λ s. sink_fails s ≡ fails) }
+    {
+        MemSink::short(alloc, room, usize::MAX, fails)
+    }
+
+    /// The same of a sink that takes at most so many bytes at each call.
+    pub fn short(
+        alloc: Global,
+        room: usize,
+        most: usize,
+        fails: NumberList,
+    ) -> Result<MemSink, NoMem>
+        requires { 0 < most }
+        ensures empty { IfOk result (λ s. (sink_bytes s ≡ []) × (sink_calls s ≡ 0) × (sink_faults s ≡ 0)) }
+        ensures room { IfOk result (λ s. sink_room s ≡ room) }
+        ensures most { IfOk result (λ s. sink_most s ≡ most) }
         ensures fails { IfOk result (λ s. sink_fails s ≡ fails) }
     {
         let bytes = Vec::with_capacity(alloc, room)?;
         Ok(MemSink {
             bytes,
             room,
+            most,
             fails,
             calls: 0,
             faults: 0,
@@ -69,6 +90,7 @@ impl Sink for MemSink {
         ensures told { TakesFrom result piece.now (Some (sink_bytes self.old)) (Some (sink_bytes self.new)) }
         ensures later { sink_faults self.old ≤ sink_faults self.new }
         ensures failed { result ≡ Put.Failed → Rose (sink_faults self.old) (sink_faults self.new) }
+        ensures calm { IsCalmPut result (sink_faults self.old) (sink_faults self.new) }
 
         // It fails exactly at a listed call and where the room is full, and else takes all that fits.
         ensures exact { Puts result (length piece.now) self.old self.new }
@@ -83,7 +105,7 @@ impl Sink for MemSink {
             self.faults = self.faults.saturating_add(1);
             return Put::Failed;
         }
-        let taken = piece.len().min(room);
+        let taken = piece.len().min(room).min(self.most);
         match self.bytes.extend_from_slice(&piece[..taken]) {
             Ok(()) => Put::Took(taken),
             Err(_) => unreachable!(),

@@ -1,3 +1,7 @@
+//! Why a call on a sentence gives no value.
+use crate::NoMem;
+use std::alloc::AllocError;
+
 /// Where in a sentence a refusal stands.
 #[derive(Clone, Copy, Debug, PartialEq, Eq)]
 pub enum Place {
@@ -31,4 +35,26 @@ pub enum Stop {
     Refused(Refusal),
     Out(Limit),
     NoMem,
+}
+
+impl From<NoMem> for Stop {
+    ghost use Rattle.std.specs.Prelude.{◌≡◌};
+    ghost use Rattle.base_core.specs.declared.refusals.Stop.TheVariants.{NoMem as OutOfMemory};
+
+    ghost from_gives = { λ _ e. e ≡ OutOfMemory };
+
+    fn from(_error: NoMem) -> Stop {
+        Stop::NoMem
+    }
+}
+
+impl From<AllocError> for Stop {
+    ghost use Rattle.std.specs.Prelude.{◌≡◌};
+    ghost use Rattle.base_core.specs.declared.refusals.Stop.TheVariants.{NoMem as OutOfMemory};
+
+    ghost from_gives = { λ _ e. e ≡ OutOfMemory };
+
+    fn from(_error: AllocError) -> Stop {
+        Stop::NoMem
+    }
 }

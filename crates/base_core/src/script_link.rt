@@ -1,10 +1,10 @@
+//! A link in memory, which gives the items of a list and tells its polls.
 ghost use Rattle.std.specs.Prelude.{◌≡◌, ◌++◌, ◌∷◌, [], ◌≤◌, ◌<◌, length, vec_capacity, IfOk, OnOk, IsTrue, ◌↔◌};
 ghost use Rattle.base_core.specs.Link.{poll};
 ghost use Rattle.base_core.specs.Items.{next_of, left_from, IsGiven, item_bytes, seen_of};
 
-use crate::{Bytes, Link, NoMem, Taken};
+use crate::{Bytes, Link, List, NoMem, Taken};
 use std::alloc::Global;
-use std::marker::Model;
 
 /// What a link in memory gives next.
 #[derive(Debug, Drop)]
@@ -17,42 +17,8 @@ pub enum Item {
     Fail,
 }
 
-#[derive(Debug, Drop)]
-pub struct ItemList {
-    items: Vec<Item>,
-}
-
-impl Model for ItemList {
-    ghost use Rattle.std.specs.Prelude.{List};
-    ghost use Rattle.base_core.specs.declared.script_link.Item.{Item};
-
-    ghost Value = { List Item };
-
-    ghost view = { λ a. a.items.items };
-}
-
-impl ItemList {
-    pub fn new(alloc: Global) -> ItemList
-        ensures { result ≡ [] }
-    {
-        ItemList {
-            items: Vec::new(alloc),
-        }
-    }
-
-    pub fn push(&mut self, item: Item) -> Result<(), NoMem>
-        ensures { OnOk result (self.new ≡ self.old ++ item ∷ []) }
-    {
-        self.items.push(item)?;
-        Ok(())
-    }
-
-    pub fn as_slice(&self) -> &[Item]
-        ensures { result.now ≡ self.now }
-    {
-        self.items.as_slice()
-    }
-}
+/// What a link gives, in order.
+pub type ItemList = List<Item>;
 
 /// What a poll gave. Bytes are named by their place, so that noting them takes no memory.
 #[derive(Clone, Copy, Debug, Drop)]
@@ -196,7 +162,7 @@ impl ScriptLink {
 
 impl Link for ScriptLink {
     ghost use Rattle.std.specs.Prelude.{Some};
-    ghost use Rattle.base_core.specs.Link.{TakenFrom};
+    ghost use Rattle.base_core.specs.Link.{TakenFrom, IsCalmPoll};
     ghost use Rattle.base_core.specs.Faults.{Rose};
     ghost use Rattle.base_core.specs.ScriptLink.{link_polls, link_faults, Polls};
 
@@ -209,6 +175,7 @@ impl Link for ScriptLink {
         ensures told { TakenFrom result wait buf.new (Some (link_polls self.old)) (Some (link_polls self.new)) }
         ensures later { link_faults self.old ≤ link_faults self.new }
         ensures failed { result ≡ Taken.Failed → Rose (link_faults self.old) (link_faults self.new) }
+        ensures calm { IsCalmPoll result (link_faults self.old) (link_faults self.new) }
 
         // It gives the next items while there is room to note a poll, and else fails.
         ensures exact { Polls wait (length buf.old) result self.old self.new }

@@ -1,6 +1,7 @@
+//! Where the program writes.
 ghost use Rattle.std.specs.Prelude.{◌≡◌, ℕ, Option, List, ◌≤◌, ◌<◌, length};
 ghost use Rattle.base_core.specs.Faults.{Rose};
-ghost use Rattle.base_core.specs.Sink.{TakesFrom};
+ghost use Rattle.base_core.specs.Sink.{TakesFrom, IsCalmPut};
 
 /// What became of a piece that was offered to a sink.
 #[derive(Clone, Copy, Debug, PartialEq, Eq)]
@@ -23,5 +24,6 @@ pub trait Sink {
         requires { 0 < length piece.now }
         ensures told { TakesFrom result piece.now (written self.old) (written self.new) }
         ensures later { faults self.old ≤ faults self.new }
-        ensures failed { result ≡ Put.Failed → Rose (faults self.old) (faults self.new) };
+        ensures failed { result ≡ Put.Failed → Rose (faults self.old) (faults self.new) }
+        ensures calm { IsCalmPut result (faults self.old) (faults self.new) };
 }

@@ -1,3 +1,4 @@
+//! Standard input.
 ghost use Rattle.std.specs.Prelude.{◌≡◌, ◌≤◌, ◌<◌, None, length, vec_len, IfOk, IfSome};
 ghost use Rattle.base_core.specs.Faults.{Rose};
 

@@ -23,7 +23,7 @@ fn text_of(alloc: Global, characters: &[char]) -> Result<Text, NoMem>
     for character in characters {
         text.push(*character)?;
     }
-    Ok(Text::from_string(text))
+    Text::from_string(alloc, text)
 }
 
 /// How many bytes the characters have.
