@@ -11,9 +11,9 @@ abbrev pub tree_of : Node → Tree
 tree_of (node.Var i) = Var i
 tree_of (node.Sorted s) = Sorted s
 tree_of (node.Constant c) = Constant c
-tree_of (node.Prod n a b) = Prod n.value a b
-tree_of (node.Lam n a b) = Lam n.value a b
-tree_of (node.LetIn n a t b) = LetIn n.value a t b
+tree_of (node.Prod n a b) = Prod n a b
+tree_of (node.Lam n a b) = Lam n a b
+tree_of (node.LetIn n a t b) = LetIn n a t b
 tree_of (node.App f a) = App f a
 
 -- a node that is a sort has a level in its range

@@ -32,12 +32,12 @@ impl Term {
                 domain,
                 codomain,
             } => Node::Prod {
-                name: name.clone()?,
+                name: name.share()?,
                 domain: domain.lift_from(alloc, by, from)?,
                 codomain: codomain.lift_from(alloc, by, from + 1)?,
             },
             Node::Lam { name, domain, body } => Node::Lam {
-                name: name.clone()?,
+                name: name.share()?,
                 domain: domain.lift_from(alloc, by, from)?,
                 body: body.lift_from(alloc, by, from + 1)?,
             },
@@ -47,7 +47,7 @@ impl Term {
                 value,
                 body,
             } => Node::LetIn {
-                name: name.clone()?,
+                name: name.share()?,
                 ty: ty.lift_from(alloc, by, from)?,
                 value: value.lift_from(alloc, by, from)?,
                 body: body.lift_from(alloc, by, from + 1)?,

@@ -3,8 +3,8 @@ ghost use Rattle.core_term.specs.Tree.{IsNumbered, size_of};
 ghost use Rattle.core_term.specs.Places.{lift_of, subst_of, occurrences};
 ghost use Rattle.core_term.specs.Answers.{within_limits, Gives};
 
-use crate::terms::SIZE_LIMIT;
 use crate::{Node, Term, TermStop};
+use base_core::TERM_SIZE_LIMIT;
 use std::alloc::Global;
 
 impl Term {
@@ -16,7 +16,7 @@ impl Term {
         ensures { Gives result (within_limits (subst_of self.now value.now at)) }
     {
         let at = u64::from(at);
-        if self.size_with(value, at) > u64::from(SIZE_LIMIT) {
+        if self.size_with(value, at) > u64::from(TERM_SIZE_LIMIT) {
             return Err(TermStop::TooLarge);
         }
         self.subst_under(alloc, value, at, 0)
@@ -84,12 +84,12 @@ impl Term {
                 domain,
                 codomain,
             } => Node::Prod {
-                name: name.clone()?,
+                name: name.share()?,
                 domain: domain.subst_under(alloc, value, at, binders)?,
                 codomain: codomain.subst_under(alloc, value, at + 1, binders + 1)?,
             },
             Node::Lam { name, domain, body } => Node::Lam {
-                name: name.clone()?,
+                name: name.share()?,
                 domain: domain.subst_under(alloc, value, at, binders)?,
                 body: body.subst_under(alloc, value, at + 1, binders + 1)?,
             },
@@ -99,7 +99,7 @@ impl Term {
                 value: given,
                 body,
             } => Node::LetIn {
-                name: name.clone()?,
+                name: name.share()?,
                 ty: ty.subst_under(alloc, value, at, binders)?,
                 value: given.subst_under(alloc, value, at, binders)?,
                 body: body.subst_under(alloc, value, at + 1, binders + 1)?,

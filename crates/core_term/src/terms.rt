@@ -5,14 +5,10 @@ ghost use Rattle.core_term.specs.Nodes.{tree_of, HasSort, Measures};
 ghost use Rattle.core_term.specs.Answers.{within_limits, Gives};
 
 use crate::{Measure, Sort, TermStop};
-use base_core::{NoMem, Text};
+use base_core::{NoMem, TERM_DEPTH_LIMIT, TERM_SIZE_LIMIT, Text};
 use std::alloc::Global;
 use std::marker::Model;
 use std::rc::Rc;
-
-pub(crate) const SIZE_LIMIT: u32 = 1048576;
-
-const DEPTH_LIMIT: u32 = 1000;
 
 /// A term with de Bruijn indices, which contracts see as a tree. Its subterms are shared.
 #[derive(Drop)]
@@ -37,17 +33,17 @@ pub enum Node {
     /// A global, by its place in the environment.
     Constant(u32),
     Prod {
-        name: Rc<Text>,
+        name: Text,
         domain: Term,
         codomain: Term,
     },
     Lam {
-        name: Rc<Text>,
+        name: Text,
         domain: Term,
         body: Term,
     },
     LetIn {
-        name: Rc<Text>,
+        name: Text,
         ty: Term,
         value: Term,
         body: Term,
@@ -79,14 +75,13 @@ impl Model for Term {
 }
 
 impl Term {
-    /// The term of this node, of which it takes the parts. This is the way to make a term whose
-    /// name is shared with another.
+    /// The term of this node, of which it takes the parts.
     pub fn of_node(alloc: Global, node: Node) -> Result<Term, TermStop>
         requires { HasSort node }
         ensures { Gives result (within_limits (tree_of node)) }
     {
         let measure = node.measure();
-        if measure.size > SIZE_LIMIT || measure.depth > DEPTH_LIMIT {
+        if measure.size > TERM_SIZE_LIMIT || measure.depth > TERM_DEPTH_LIMIT {
             return Err(TermStop::TooLarge);
         }
         let inner = Rc::new(alloc, Cell { measure, node })?;
@@ -117,7 +112,6 @@ impl Term {
     pub fn prod(alloc: Global, name: Text, a: Term, b: Term) -> Result<Term, TermStop>
         ensures { Gives result (within_limits (Prod name a b)) }
     {
-        let name = Rc::new(alloc, name)?;
         Term::of_node(
             alloc,
             Node::Prod {
@@ -132,7 +126,6 @@ impl Term {
     pub fn lam(alloc: Global, name: Text, a: Term, b: Term) -> Result<Term, TermStop>
         ensures { Gives result (within_limits (Lam name a b)) }
     {
-        let name = Rc::new(alloc, name)?;
         Term::of_node(
             alloc,
             Node::Lam {
@@ -147,7 +140,6 @@ impl Term {
     pub fn let_in(alloc: Global, name: Text, a: Term, t: Term, b: Term) -> Result<Term, TermStop>
         ensures { Gives result (within_limits (LetIn name a t b)) }
     {
-        let name = Rc::new(alloc, name)?;
         Term::of_node(
             alloc,
             Node::LetIn {
