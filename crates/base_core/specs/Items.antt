@@ -4,7 +4,8 @@ use Rattle.base_core.specs.declared.script_link.Item.{Item}
 use Rattle.base_core.specs.declared.script_link.Item.TheVariants as item
 use Rattle.base_core.specs.declared.script_link.Given.{Given}
 use Rattle.base_core.specs.declared.script_link.Given.TheVariants as given
-use Rattle.base_core.specs.declared.script_link.Note.{Note}
+use Rattle.base_core.specs.declared.script_link.ScriptAt.{ScriptAt}
+use Rattle.base_core.specs.declared.script_link.PollRecord.{PollRecord}
 use Rattle.base_core.specs.Link.{Seen, Bytes, Nothing, Ended, Fault, Poll, poll}
 
 -- what a poll sees, and the items that are then left
@@ -51,6 +52,14 @@ seen_of items given.Idle = Nothing
 seen_of items given.Fail = Fault
 seen_of items given.End = Ended
 
+-- what was given, and the items that are left behind it
+abbrev pub next_by : List Item → Given × ScriptAt → Next
+next_by items g = record { seen = seen_of items g.0; left = left_from items g.1.at g.1.used }
+
+-- a poll that was given this
+abbrev pub poll_by : List Item → Bool → Given → Poll
+poll_by items waits g = poll waits (seen_of items g)
+
 -- what a poll for at most `room` bytes may be given: bytes of one item, at least one; nothing only where it
 -- does not wait
 abbrev pub IsGiven : List Item → Bool → ℕ → Given → Type 0
@@ -60,5 +69,5 @@ IsGiven items wait room given.Fail = Unit {0}
 IsGiven items wait room given.End = Unit {0}
 
 -- a poll as it is noted
-abbrev pub poll_of : List Item → Note → Poll
-poll_of items note = poll note.wait (seen_of items note.given)
+abbrev pub poll_of : List Item → PollRecord → Poll
+poll_of items note = poll_by items note.wait note.given

@@ -1,7 +1,6 @@
 //! A link in memory, which gives the items of a list and tells its polls.
 ghost use Rattle.std.specs.Prelude.{◌≡◌, ◌++◌, ◌∷◌, [], ◌≤◌, ◌<◌, length, vec_capacity, IfOk, OnOk, IsTrue, ◌↔◌};
-ghost use Rattle.base_core.specs.Link.{poll};
-ghost use Rattle.base_core.specs.Items.{next_of, left_from, IsGiven, item_bytes, seen_of};
+ghost use Rattle.base_core.specs.Items.{next_of, next_by, left_from, poll_by, IsGiven, item_bytes};
 
 use crate::{Bytes, Link, List, NoMem, Taken};
 use std::alloc::Global;
@@ -32,13 +31,13 @@ enum Given {
 
 /// A place among items: those before it are used up, and so many bytes of the one there.
 #[derive(Clone, Copy, Debug, Drop)]
-struct Place {
+struct ScriptAt {
     at: usize,
     used: usize,
 }
 
 #[derive(Clone, Copy, Debug, Drop)]
-struct Note {
+struct PollRecord {
     wait: bool,
     given: Given,
 }
@@ -47,8 +46,8 @@ struct Note {
 #[derive(Debug, Drop)]
 pub struct ScriptLink {
     items: ItemList,
-    place: Place,
-    notes: Vec<Note>,
+    place: ScriptAt,
+    notes: Vec<PollRecord>,
     room: usize,
     faults: u64,
     ghost reserved: { room ≤ vec_capacity notes },
@@ -64,10 +63,10 @@ fn piece_of(item: &Item) -> &[u8]
 }
 
 /// What a poll for at most `room` bytes gives, and the place behind it.
-fn next(items: &[Item], wait: bool, place: Place, room: usize) -> (Given, Place)
+fn next(items: &[Item], wait: bool, place: ScriptAt, room: usize) -> (Given, ScriptAt)
     requires { 0 < room }
     ensures within { IsGiven items.now wait room result.0 }
-    ensures given { next_of (left_from items.now place.at place.used) wait room ≡ record { seen = seen_of items.now result.0; left = left_from items.now result.1.at result.1.used } }
+    ensures given { next_of (left_from items.now place.at place.used) wait room ≡ next_by items.now result }
 {
     let mut used = place.used;
     for at in place.at..items.len() {
@@ -75,9 +74,9 @@ fn next(items: &[Item], wait: bool, place: Place, room: usize) -> (Given, Place)
         if left > 0 {
             let to = used + room.min(left);
             let given = Given::Got { at, from: used, to };
-            return (given, Place { at, used: to });
+            return (given, ScriptAt { at, used: to });
         }
-        let past = Place {
+        let past = ScriptAt {
             at: at + 1,
             used: 0,
         };
@@ -87,7 +86,7 @@ fn next(items: &[Item], wait: bool, place: Place, room: usize) -> (Given, Place)
             _ => used = 0,
         }
     }
-    let past = Place {
+    let past = ScriptAt {
         at: items.len(),
         used: 0,
     };
@@ -106,7 +105,7 @@ impl ScriptLink {
         let notes = Vec::with_capacity(alloc, room)?;
         Ok(ScriptLink {
             items,
-            place: Place { at: 0, used: 0 },
+            place: ScriptAt { at: 0, used: 0 },
             notes,
             room,
             faults: 0,
@@ -136,25 +135,25 @@ impl ScriptLink {
     }
 
     /// Notes a poll and goes to the place behind what it gave.
-    fn note(&mut self, wait: bool, given: Given, place: Place)
+    fn note(&mut self, wait: bool, given: Given, place: ScriptAt)
         requires { length (link_polls self.old) < link_room self.old }
         ensures items { link_items self.new ≡ link_items self.old }
         ensures room { link_room self.new ≡ link_room self.old }
         ensures faults { link_faults self.new ≡ link_faults self.old }
         ensures left { link_left self.new ≡ left_from (link_items self.old) place.at place.used }
-        ensures polls { link_polls self.new ≡ link_polls self.old ++ poll wait (seen_of (link_items self.old) given) ∷ [] }
+        ensures polls { link_polls self.new ≡ link_polls self.old ++ poll_by (link_items self.old) wait given ∷ [] }
     {
         self.place = place;
-        match self.notes.push(Note { wait, given }) {
+        match self.notes.push(PollRecord { wait, given }) {
             Ok(()) => {}
             Err(_) => unreachable!(),
         }
     }
 
-    fn next(&self, wait: bool, asked: usize) -> (Given, Place)
+    fn next(&self, wait: bool, asked: usize) -> (Given, ScriptAt)
         requires { 0 < asked }
         ensures within { IsGiven (link_items self.now) wait asked result.0 }
-        ensures given { next_of (link_left self.now) wait asked ≡ record { seen = seen_of (link_items self.now) result.0; left = left_from (link_items self.now) result.1.at result.1.used } }
+        ensures given { next_of (link_left self.now) wait asked ≡ next_by (link_items self.now) result }
     {
         next(self.items.as_slice(), wait, self.place, asked)
     }

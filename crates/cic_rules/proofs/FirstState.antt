@@ -3,7 +3,7 @@ use Rattle.std.specs.Prelude.{◌≡◌, ℕ, List, [], ◌∷◌, ◌++◌, len
 use Rattle.base_core.specs.declared.refusals.Stop.{Stop}
 use Rattle.core_term.specs.declared.sorts.Sort.{Sort}
 use Rattle.core_term.specs.declared.sorts.Sort.TheVariants.{PropSort, SetSort, TypeSort}
-use Rattle.core_term.specs.Tree.{Tree, Variable, Universe, Const, Product, Lambda, Apply}
+use Rattle.core_term.specs.Tree.{Tree, Var, Sorted, Constant, Prod, Lam, App}
 use Rattle.cic_rules.specs.declared.context.Hyp.{Hyp}
 use Rattle.cic_rules.specs.declared.decls.Decl.{Decl}
 use Rattle.cic_rules.specs.declared.decls.Decl.TheVariants.{Define, Induct}
@@ -28,20 +28,20 @@ declare_all [] env left = done env left
 declare_all (d ∷ ds) env left = then_do (declare_at env 2000 d left) (declare_all ds)
 
 abbrev PROP : Tree
-PROP = Universe PropSort
+PROP = Sorted PropSort
 
 abbrev SET : Tree
-SET = Universe SetSort
+SET = Sorted SetSort
 
 abbrev TYPE : Tree
-TYPE = Universe (TypeSort 1)
+TYPE = Sorted (TypeSort 1)
 
 -- the name `_`
 abbrev ANY : List ℕ
 ANY = 95 ∷ []
 
 abbrev arrow : Tree → Tree → Tree
-arrow a b = Product ANY a b
+arrow a b = Prod ANY a b
 
 abbrev inductive : List ℕ → List Hyp → Tree → List Ctor → Decl
 inductive name params arity ctors = Induct (record { name = name; params = params; arity = arity; ctors = ctors })
@@ -50,43 +50,43 @@ abbrev ctor : List ℕ → Tree → Ctor
 ctor name ty = record { name = name; ty = ty }
 
 abbrev apply2 : Tree → Tree → Tree → Tree
-apply2 f a b = Apply (Apply f a) b
+apply2 f a b = App (App f a) b
 
 abbrev NAT : Tree
-NAT = Const 33
+NAT = Constant 33
 
 abbrev O : Tree
-O = Const 34
+O = Constant 34
 
 abbrev S : Tree
-S = Const 35
+S = Constant 35
 
 abbrev NAT_REC : Tree
-NAT_REC = Const 37
+NAT_REC = Constant 37
 
 abbrev PLUS : Tree
-PLUS = Const 39
+PLUS = Constant 39
 
 -- the first state's declarations
 abbrev pub PRELUDE : List Decl
 PRELUDE =
     inductive (70 ∷ 97 ∷ 108 ∷ 115 ∷ 101 ∷ []) [] PROP []
-    ∷ inductive (84 ∷ 114 ∷ 117 ∷ 101 ∷ []) [] PROP (ctor (73 ∷ []) (Const 4) ∷ [])
+    ∷ inductive (84 ∷ 114 ∷ 117 ∷ 101 ∷ []) [] PROP (ctor (73 ∷ []) (Constant 4) ∷ [])
     ∷ inductive (97 ∷ 110 ∷ 100 ∷ []) (plain_hyp (65 ∷ []) PROP ∷ plain_hyp (66 ∷ []) PROP ∷ []) PROP
-    (ctor (99 ∷ 111 ∷ 110 ∷ 106 ∷ []) (arrow (Variable 1) (arrow (Variable 1) (apply2 (Const 9) (Variable 3) (Variable 2)))) ∷ [])
+    (ctor (99 ∷ 111 ∷ 110 ∷ 106 ∷ []) (arrow (Var 1) (arrow (Var 1) (apply2 (Constant 9) (Var 3) (Var 2)))) ∷ [])
     ∷ inductive (111 ∷ 114 ∷ []) (plain_hyp (65 ∷ []) PROP ∷ plain_hyp (66 ∷ []) PROP ∷ []) PROP
-    (ctor (111 ∷ 114 ∷ 95 ∷ 105 ∷ 110 ∷ 116 ∷ 114 ∷ 111 ∷ 108 ∷ []) (arrow (Variable 1) (apply2 (Const 14) (Variable 2) (Variable 1)))
-    ∷ ctor (111 ∷ 114 ∷ 95 ∷ 105 ∷ 110 ∷ 116 ∷ 114 ∷ 111 ∷ 114 ∷ []) (arrow (Variable 0) (apply2 (Const 14) (Variable 2) (Variable 1))) ∷ [])
-    ∷ Define (110 ∷ 111 ∷ 116 ∷ []) (Some (Product (65 ∷ []) PROP PROP)) (Lambda (65 ∷ []) PROP (arrow (Variable 0) (Const 0))) false
-    ∷ inductive (101 ∷ 113 ∷ []) (plain_hyp (65 ∷ []) TYPE ∷ plain_hyp (120 ∷ []) (Variable 0) ∷ []) (arrow (Variable 1) PROP)
-    (ctor (101 ∷ 113 ∷ 95 ∷ 114 ∷ 101 ∷ 102 ∷ 108 ∷ []) (Apply (apply2 (Const 19) (Variable 1) (Variable 0)) (Variable 0)) ∷ [])
-    ∷ inductive (101 ∷ 120 ∷ []) (plain_hyp (65 ∷ []) TYPE ∷ plain_hyp (80 ∷ []) (arrow (Variable 0) PROP) ∷ []) PROP
-    (ctor (101 ∷ 120 ∷ 95 ∷ 105 ∷ 110 ∷ 116 ∷ 114 ∷ 111 ∷ []) (Product (120 ∷ []) (Variable 1) (arrow (Apply (Variable 1) (Variable 0)) (apply2 (Const 24) (Variable 3) (Variable 2)))) ∷ [])
-    ∷ inductive (98 ∷ 111 ∷ 111 ∷ 108 ∷ []) [] (Universe SetSort) (ctor (116 ∷ 114 ∷ 117 ∷ 101 ∷ []) (Const 27) ∷ ctor (102 ∷ 97 ∷ 108 ∷ 115 ∷ 101 ∷ []) (Const 27) ∷ [])
-    ∷ inductive (110 ∷ 97 ∷ 116 ∷ []) [] (Universe SetSort) (ctor (79 ∷ []) NAT ∷ ctor (83 ∷ []) (arrow NAT NAT) ∷ [])
-    ∷ Define (112 ∷ 108 ∷ 117 ∷ 115 ∷ []) (Some (Product (110 ∷ []) NAT (Product (109 ∷ []) NAT NAT)))
-    (Lambda (110 ∷ []) NAT (Lambda (109 ∷ []) NAT
-    (apply_all NAT_REC (Lambda ANY NAT NAT ∷ Variable 0 ∷ Lambda ANY NAT (Lambda (114 ∷ []) NAT (Apply S (Variable 0))) ∷ Variable 1 ∷ [])))) false
+    (ctor (111 ∷ 114 ∷ 95 ∷ 105 ∷ 110 ∷ 116 ∷ 114 ∷ 111 ∷ 108 ∷ []) (arrow (Var 1) (apply2 (Constant 14) (Var 2) (Var 1)))
+    ∷ ctor (111 ∷ 114 ∷ 95 ∷ 105 ∷ 110 ∷ 116 ∷ 114 ∷ 111 ∷ 114 ∷ []) (arrow (Var 0) (apply2 (Constant 14) (Var 2) (Var 1))) ∷ [])
+    ∷ Define (110 ∷ 111 ∷ 116 ∷ []) (Some (Prod (65 ∷ []) PROP PROP)) (Lam (65 ∷ []) PROP (arrow (Var 0) (Constant 0))) false
+    ∷ inductive (101 ∷ 113 ∷ []) (plain_hyp (65 ∷ []) TYPE ∷ plain_hyp (120 ∷ []) (Var 0) ∷ []) (arrow (Var 1) PROP)
+    (ctor (101 ∷ 113 ∷ 95 ∷ 114 ∷ 101 ∷ 102 ∷ 108 ∷ []) (App (apply2 (Constant 19) (Var 1) (Var 0)) (Var 0)) ∷ [])
+    ∷ inductive (101 ∷ 120 ∷ []) (plain_hyp (65 ∷ []) TYPE ∷ plain_hyp (80 ∷ []) (arrow (Var 0) PROP) ∷ []) PROP
+    (ctor (101 ∷ 120 ∷ 95 ∷ 105 ∷ 110 ∷ 116 ∷ 114 ∷ 111 ∷ []) (Prod (120 ∷ []) (Var 1) (arrow (App (Var 1) (Var 0)) (apply2 (Constant 24) (Var 3) (Var 2)))) ∷ [])
+    ∷ inductive (98 ∷ 111 ∷ 111 ∷ 108 ∷ []) [] (Sorted SetSort) (ctor (116 ∷ 114 ∷ 117 ∷ 101 ∷ []) (Constant 27) ∷ ctor (102 ∷ 97 ∷ 108 ∷ 115 ∷ 101 ∷ []) (Constant 27) ∷ [])
+    ∷ inductive (110 ∷ 97 ∷ 116 ∷ []) [] (Sorted SetSort) (ctor (79 ∷ []) NAT ∷ ctor (83 ∷ []) (arrow NAT NAT) ∷ [])
+    ∷ Define (112 ∷ 108 ∷ 117 ∷ 115 ∷ []) (Some (Prod (110 ∷ []) NAT (Prod (109 ∷ []) NAT NAT)))
+    (Lam (110 ∷ []) NAT (Lam (109 ∷ []) NAT
+    (apply_all NAT_REC (Lam ANY NAT NAT ∷ Var 0 ∷ Lam ANY NAT (Lam (114 ∷ []) NAT (App S (Var 0))) ∷ Var 1 ∷ [])))) false
     ∷ []
 
 abbrev environment_of : Result (List Slot) Stop → List Slot
@@ -129,72 +129,72 @@ into_all name place ty =
 
 -- forall P : Prop, False -> P, where False is f
 false_eliminators : found (1 ∷ 2 ∷ 3 ∷ []) ≡ into_all (70 ∷ 97 ∷ 108 ∷ 115 ∷ 101 ∷ []) 0 (λ sort.
-    Product (80 ∷ []) sort (Product (102 ∷ []) (Const 0) (Variable 1)))
+    Prod (80 ∷ []) sort (Prod (102 ∷ []) (Constant 0) (Var 1)))
 unfolding repeat whnf_at conv_at blocker_at infer_at row_at
 false_eliminators = refl
 
 -- forall P : Prop, P -> True -> P
 true_eliminators : found (6 ∷ 7 ∷ 8 ∷ []) ≡ into_all (84 ∷ 114 ∷ 117 ∷ 101 ∷ []) 4 (λ sort.
-    Product (80 ∷ []) sort (Product (102 ∷ 95 ∷ 73 ∷ []) (Variable 0) (Product (116 ∷ []) (Const 4) (Variable 2))))
+    Prod (80 ∷ []) sort (Prod (102 ∷ 95 ∷ 73 ∷ []) (Var 0) (Prod (116 ∷ []) (Constant 4) (Var 2))))
 unfolding repeat whnf_at conv_at blocker_at infer_at row_at
 true_eliminators = refl
 
 -- forall (A B P : Prop), (A -> B -> P) -> and A B -> P
 and_eliminators : found (11 ∷ 12 ∷ 13 ∷ []) ≡ into_all (97 ∷ 110 ∷ 100 ∷ []) 9 (λ sort.
-    Product (65 ∷ []) PROP (Product (66 ∷ []) PROP (Product (80 ∷ []) sort
-    (Product (102 ∷ 95 ∷ 99 ∷ 111 ∷ 110 ∷ 106 ∷ []) (Product (72 ∷ []) (Variable 2) (Product (72 ∷ 48 ∷ []) (Variable 2) (Variable 2)))
-    (Product (97 ∷ []) (apply2 (Const 9) (Variable 3) (Variable 2)) (Variable 2))))))
+    Prod (65 ∷ []) PROP (Prod (66 ∷ []) PROP (Prod (80 ∷ []) sort
+    (Prod (102 ∷ 95 ∷ 99 ∷ 111 ∷ 110 ∷ 106 ∷ []) (Prod (72 ∷ []) (Var 2) (Prod (72 ∷ 48 ∷ []) (Var 2) (Var 2)))
+    (Prod (97 ∷ []) (apply2 (Constant 9) (Var 3) (Var 2)) (Var 2))))))
 unfolding repeat whnf_at conv_at blocker_at infer_at row_at
 and_eliminators = refl
 
 -- forall A B P : Prop, (A -> P) -> (B -> P) -> or A B -> P, into Prop alone
 or_eliminator : found (17 ∷ []) ≡ into_prop (111 ∷ 114 ∷ []) 14 (λ sort.
-    Product (65 ∷ []) PROP (Product (66 ∷ []) PROP (Product (80 ∷ []) sort
-    (Product (102 ∷ 95 ∷ 111 ∷ 114 ∷ 95 ∷ 105 ∷ 110 ∷ 116 ∷ 114 ∷ 111 ∷ 108 ∷ []) (Product (72 ∷ []) (Variable 2) (Variable 1))
-    (Product (102 ∷ 95 ∷ 111 ∷ 114 ∷ 95 ∷ 105 ∷ 110 ∷ 116 ∷ 114 ∷ 111 ∷ 114 ∷ []) (Product (72 ∷ []) (Variable 2) (Variable 2))
-    (Product (111 ∷ []) (apply2 (Const 14) (Variable 4) (Variable 3)) (Variable 3))))))) ∷ []
+    Prod (65 ∷ []) PROP (Prod (66 ∷ []) PROP (Prod (80 ∷ []) sort
+    (Prod (102 ∷ 95 ∷ 111 ∷ 114 ∷ 95 ∷ 105 ∷ 110 ∷ 116 ∷ 114 ∷ 111 ∷ 108 ∷ []) (Prod (72 ∷ []) (Var 2) (Var 1))
+    (Prod (102 ∷ 95 ∷ 111 ∷ 114 ∷ 95 ∷ 105 ∷ 110 ∷ 116 ∷ 114 ∷ 111 ∷ 114 ∷ []) (Prod (72 ∷ []) (Var 2) (Var 2))
+    (Prod (111 ∷ []) (apply2 (Constant 14) (Var 4) (Var 3)) (Var 3))))))) ∷ []
 unfolding repeat whnf_at conv_at blocker_at infer_at row_at
 or_eliminator = refl
 
 -- forall (A : Type) (x : A) (P : A -> Prop), P x -> forall x0 : A, eq A x x0 -> P x0, where the index has no name
 eq_eliminators : found (21 ∷ 22 ∷ 23 ∷ []) ≡ into_all (101 ∷ 113 ∷ []) 19 (λ sort.
-    Product (65 ∷ []) TYPE (Product (120 ∷ []) (Variable 0)
-    (Product (80 ∷ []) (arrow (Variable 1) sort)
-    (Product (102 ∷ 95 ∷ 101 ∷ 113 ∷ 95 ∷ 114 ∷ 101 ∷ 102 ∷ 108 ∷ []) (Apply (Variable 0) (Variable 1))
-    (arrow (Variable 3) (Product (101 ∷ []) (Apply (apply2 (Const 19) (Variable 4) (Variable 3)) (Variable 0)) (Apply (Variable 3) (Variable 1))))))))
+    Prod (65 ∷ []) TYPE (Prod (120 ∷ []) (Var 0)
+    (Prod (80 ∷ []) (arrow (Var 1) sort)
+    (Prod (102 ∷ 95 ∷ 101 ∷ 113 ∷ 95 ∷ 114 ∷ 101 ∷ 102 ∷ 108 ∷ []) (App (Var 0) (Var 1))
+    (arrow (Var 3) (Prod (101 ∷ []) (App (apply2 (Constant 19) (Var 4) (Var 3)) (Var 0)) (App (Var 3) (Var 1))))))))
 unfolding repeat whnf_at conv_at blocker_at infer_at row_at
 eq_eliminators = refl
 
 -- forall (A : Type) (P : A -> Prop) (P0 : Prop), (forall x : A, P x -> P0) -> ex A P -> P0, into Prop alone; the motive is named P too
 ex_eliminator : found (26 ∷ []) ≡ into_prop (101 ∷ 120 ∷ []) 24 (λ sort.
-    Product (65 ∷ []) TYPE (Product (80 ∷ []) (arrow (Variable 0) PROP) (Product (80 ∷ []) sort
-    (Product (102 ∷ 95 ∷ 101 ∷ 120 ∷ 95 ∷ 105 ∷ 110 ∷ 116 ∷ 114 ∷ 111 ∷ [])
-    (Product (120 ∷ []) (Variable 2) (Product (72 ∷ []) (Apply (Variable 2) (Variable 0)) (Variable 2)))
-    (Product (101 ∷ []) (apply2 (Const 24) (Variable 3) (Variable 2)) (Variable 2)))))) ∷ []
+    Prod (65 ∷ []) TYPE (Prod (80 ∷ []) (arrow (Var 0) PROP) (Prod (80 ∷ []) sort
+    (Prod (102 ∷ 95 ∷ 101 ∷ 120 ∷ 95 ∷ 105 ∷ 110 ∷ 116 ∷ 114 ∷ 111 ∷ [])
+    (Prod (120 ∷ []) (Var 2) (Prod (72 ∷ []) (App (Var 2) (Var 0)) (Var 2)))
+    (Prod (101 ∷ []) (apply2 (Constant 24) (Var 3) (Var 2)) (Var 2)))))) ∷ []
 unfolding repeat whnf_at conv_at blocker_at infer_at row_at
 ex_eliminator = refl
 
 -- forall P : bool -> Prop, P true -> P false -> forall b : bool, P b
 bool_eliminators : found (30 ∷ 31 ∷ 32 ∷ []) ≡ into_all (98 ∷ 111 ∷ 111 ∷ 108 ∷ []) 27 (λ sort.
-    Product (80 ∷ []) (Product (98 ∷ []) (Const 27) sort)
-    (Product (102 ∷ 95 ∷ 116 ∷ 114 ∷ 117 ∷ 101 ∷ []) (Apply (Variable 0) (Const 28))
-    (Product (102 ∷ 95 ∷ 102 ∷ 97 ∷ 108 ∷ 115 ∷ 101 ∷ []) (Apply (Variable 1) (Const 29))
-    (Product (98 ∷ []) (Const 27) (Apply (Variable 3) (Variable 0))))))
+    Prod (80 ∷ []) (Prod (98 ∷ []) (Constant 27) sort)
+    (Prod (102 ∷ 95 ∷ 116 ∷ 114 ∷ 117 ∷ 101 ∷ []) (App (Var 0) (Constant 28))
+    (Prod (102 ∷ 95 ∷ 102 ∷ 97 ∷ 108 ∷ 115 ∷ 101 ∷ []) (App (Var 1) (Constant 29))
+    (Prod (98 ∷ []) (Constant 27) (App (Var 3) (Var 0))))))
 unfolding repeat whnf_at conv_at blocker_at infer_at row_at
 bool_eliminators = refl
 
 -- forall P : nat -> Prop, P O -> (forall n : nat, P n -> P (S n)) -> forall n : nat, P n
 nat_eliminators : found (36 ∷ 37 ∷ 38 ∷ []) ≡ into_all (110 ∷ 97 ∷ 116 ∷ []) 33 (λ sort.
-    Product (80 ∷ []) (Product (110 ∷ []) NAT sort)
-    (Product (102 ∷ 95 ∷ 79 ∷ []) (Apply (Variable 0) O)
-    (Product (102 ∷ 95 ∷ 83 ∷ []) (Product (110 ∷ []) NAT (Product (73 ∷ 72 ∷ 110 ∷ []) (Apply (Variable 2) (Variable 0)) (Apply (Variable 3) (Apply S (Variable 1)))))
-    (Product (110 ∷ []) NAT (Apply (Variable 3) (Variable 0))))))
+    Prod (80 ∷ []) (Prod (110 ∷ []) NAT sort)
+    (Prod (102 ∷ 95 ∷ 79 ∷ []) (App (Var 0) O)
+    (Prod (102 ∷ 95 ∷ 83 ∷ []) (Prod (110 ∷ []) NAT (Prod (73 ∷ 72 ∷ 110 ∷ []) (App (Var 2) (Var 0)) (App (Var 3) (App S (Var 1)))))
+    (Prod (110 ∷ []) NAT (App (Var 3) (Var 0))))))
 unfolding repeat whnf_at conv_at blocker_at infer_at row_at
 nat_eliminators = refl
 
 -- 2 + 1 = 3: a unit for the sizes, one for plus, 20 and 22 for its two arguments; for each S of 2 one for iota, 6 and 4 for the
 -- arguments of its case, and one for the sizes that are left; last one for iota at O, and one for O and O
-two_and_one : conv_at (environment_of first_state.answer) 2000 [] Same (apply2 PLUS (Apply S (Apply S O)) (Apply S O)) (Apply S (Apply S (Apply S O))) 1000000 ≡ done true 999930
+two_and_one : conv_at (environment_of first_state.answer) 2000 [] Same (apply2 PLUS (App S (App S O)) (App S O)) (App S (App S (App S O))) 1000000 ≡ done true 999930
 unfolding repeat whnf_at conv_at blocker_at infer_at row_at
 two_and_one = refl
 
@@ -207,12 +207,12 @@ abbrev tried : Decl → Ran (List Slot)
 tried d = declare_at (environment_of first_state.answer) 2000 d 100
 
 -- two names are one: the type and its constructor
-refused_twice : tried (inductive (84 ∷ []) [] SET (ctor (84 ∷ []) (Const 40) ∷ [])) ≡ refused 34 100
+refused_twice : tried (inductive (84 ∷ []) [] SET (ctor (84 ∷ []) (Constant 40) ∷ [])) ≡ refused 34 100
 unfolding repeat whnf_at conv_at blocker_at infer_at row_at
 refused_twice = refl
 
 -- the name I is taken
-refused_taken : tried (inductive (84 ∷ []) [] SET (ctor (73 ∷ []) (Const 40) ∷ [])) ≡ refused 25 100
+refused_taken : tried (inductive (84 ∷ []) [] SET (ctor (73 ∷ []) (Constant 40) ∷ [])) ≡ refused 25 100
 unfolding repeat whnf_at conv_at blocker_at infer_at row_at
 refused_taken = refl
 
@@ -227,11 +227,11 @@ unfolding repeat whnf_at conv_at blocker_at infer_at row_at
 refused_constructor = refl
 
 -- (T -> nat) -> T
-refused_positivity : tried (one_constructor (arrow (arrow (Const 40) NAT) (Const 40))) ≡ refused 32 94
+refused_positivity : tried (one_constructor (arrow (arrow (Constant 40) NAT) (Constant 40))) ≡ refused 32 94
 unfolding repeat whnf_at conv_at blocker_at infer_at row_at
 refused_positivity = refl
 
 -- Set -> T
-refused_universe : tried (one_constructor (arrow SET (Const 40))) ≡ refused 33 96
+refused_universe : tried (one_constructor (arrow SET (Constant 40))) ≡ refused 33 96
 unfolding repeat whnf_at conv_at blocker_at infer_at row_at
 refused_universe = refl

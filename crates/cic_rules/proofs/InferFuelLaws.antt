@@ -3,8 +3,8 @@ use Rattle.std.proofs.Common.{ℕ, zero, suc, List, [], ◌∷◌, length, Bool,
 use Rattle.base_core.specs.declared.refusals.Stop.TheVariants.{Out}
 use Rattle.base_core.specs.declared.refusals.Limit.TheVariants.{DepthLimit}
 use Rattle.core_term.specs.declared.sorts.Sort.{Sort}
-use Rattle.core_term.specs.Tree.{Tree, Variable, Universe, Const, Product, Lambda, Let, Apply, same_tree}
-use Rattle.core_term.specs.Places.{substituted}
+use Rattle.core_term.specs.Tree.{Tree, Var, Sorted, Constant, Prod, Lam, LetIn, App, same_tree}
+use Rattle.core_term.specs.Places.{subst_of}
 use Rattle.cic_rules.specs.declared.context.Hyp.{Hyp}
 use Rattle.cic_rules.specs.declared.decls.Ctor.{Ctor}
 use Rattle.cic_rules.specs.declared.decls.Decl.TheVariants.{Assume, Define, Admit, Induct}
@@ -18,12 +18,12 @@ use Rattle.cic_rules.specs.declared.judge.Mode.{Mode}
 use Rattle.cic_rules.specs.declared.judge.Mode.TheVariants.{Below}
 use Rattle.cic_rules.specs.Contexts.{plain_hyp, defined_hyp, type_of_variable}
 use Rattle.cic_rules.specs.Environments.{type_of_global, is_taken, entered, all_entered, slotted}
-use Rattle.cic_rules.specs.Rows.{end_of}
+use Rattle.cic_rules.specs.Rows.{end_of_products}
 use Rattle.cic_rules.specs.Families.{count_indices}
 use Rattle.cic_rules.specs.Runs.{Ran, ended, done, refused, then_do}
 use Rattle.cic_rules.specs.Reduce.{whnf_at}
 use Rattle.cic_rules.specs.Convert.{compare_cost, conv_at}
-use Rattle.cic_rules.specs.Infer.{union, type_of_sort, Sorted, known, sort_typed, reduced_sort, must_be_sort, as_sort, sort_of_type, sort_of, used_with, accept, compare_types, check_type, check, product_sorted, codomain_sort, product_type, abstraction_made, body_type_sort, body_type, abstraction_type, argument_put, applied_to, reduced_product, must_be_product, function_type, application_type, value_put, let_body, let_checked, let_type, type_of, infer_at, sort_of_at, check_at}
+use Rattle.cic_rules.specs.Infer.{union, type_of_sort, InferredSort, known, sort_typed, reduced_sort, must_be_sort, as_sort, sort_of_type, sort_of, used_with, accept, compare_types, check_type, check, product_sorted, codomain_sort, product_type, abstraction_made, body_type_sort, body_type, abstraction_type, argument_put, applied_to, reduced_product, must_be_product, function_type, application_type, value_put, let_body, let_checked, let_type, type_of, infer_at, sort_of_at, check_at}
 use Rattle.cic_rules.specs.Eliminators.{type_of_decl, family_entries}
 use Rattle.cic_rules.specs.Inductive.{RowSorted, Opened, Rows, has_twice, names_of, any_taken, no_domains, with_domain, codomain_row, domain_row, row_at, open_rest, open_param, open_params, is_constructors, are_positive, rows_fit, assumed_type, with_row, params_of, row_found, rows_of, settled, constructors_judged, type_assumed, arity_sorted, params_opened, by_arity, check_inductive_at}
 use Rattle.cic_rules.specs.Declare.{type_sorted, body_checked, found_sorted, all_made, family_made, family_checked, check_body, sort_found, define}
@@ -44,7 +44,7 @@ law_reduced_sort None s used = law_ended _
 law_reduced_sort (Some r) s used = law_ended _
 
 law_must_be_sort : (used : List ℕ) (t : Tree) → KeepsLawOfFuel (must_be_sort used t)
-law_must_be_sort used (Universe s) = law_reduced_sort (type_of_sort s) s used
+law_must_be_sort used (Sorted s) = law_reduced_sort (type_of_sort s) s used
 law_must_be_sort used _ = law_ended _
 
 module _ (whnf : List Hyp → Tree → ℕ → Ran Tree) (conv : List Hyp → Mode → Tree → Tree → ℕ → Ran Bool) (infer : List Hyp → Tree → ℕ → Ran Inferred)
@@ -52,7 +52,7 @@ module _ (whnf : List Hyp → Tree → ℕ → Ran Tree) (conv : List Hyp → Mo
     (convs : (ctx : List Hyp) (mode : Mode) (t u : Tree) → KeepsLawOfFuel (conv ctx mode t u))
     (infers : (ctx : List Hyp) (t : Tree) → KeepsLawOfFuel (infer ctx t)) where
   law_as_sort : (ctx : List Hyp) (t : Tree) (used : List ℕ) → KeepsLawOfFuel (as_sort whnf conv infer ctx t used)
-  law_as_sort ctx (Universe s) used = law_ended _
+  law_as_sort ctx (Sorted s) used = law_ended _
   law_as_sort ctx t used = law_then (whnf ctx t) (must_be_sort used) (whnfs ctx t) (law_must_be_sort used)
 
   pub law_sort_of : (ctx : List Hyp) (a : Tree) → KeepsLawOfFuel (sort_of whnf conv infer ctx a)
@@ -73,17 +73,17 @@ module _ (whnf : List Hyp → Tree → ℕ → Ran Tree) (conv : List Hyp → Mo
   pub law_check : (ctx : List Hyp) (t wanted : Tree) → KeepsLawOfFuel (check whnf conv infer ctx t wanted)
   law_check ctx t wanted = law_then (infer ctx t) (check_type whnf conv infer ctx wanted) (infers ctx t) (law_check_type ctx wanted)
 
-  law_product : (ctx : List Hyp) (n : List ℕ) (a b : Tree) (s : Sorted) → KeepsLawOfFuel (product_type whnf conv infer ctx n a b s)
+  law_product : (ctx : List Hyp) (n : List ℕ) (a b : Tree) (s : InferredSort) → KeepsLawOfFuel (product_type whnf conv infer ctx n a b s)
   law_product ctx n a b s =
       law_within ctx (plain_hyp n a) (codomain_sort whnf conv infer b s)
       (λ inner. law_then (sort_of whnf conv infer inner b) (product_sorted whnf conv infer s) (law_sort_of inner b) (λ r. law_ended _))
 
-  law_body_sort : (n : List ℕ) (a : Tree) (s : Sorted) (inner : List Hyp) (i : Inferred) → KeepsLawOfFuel (body_type_sort whnf conv infer n a s inner i)
+  law_body_sort : (n : List ℕ) (a : Tree) (s : InferredSort) (inner : List Hyp) (i : Inferred) → KeepsLawOfFuel (body_type_sort whnf conv infer n a s inner i)
   law_body_sort n a s inner i =
       law_then (sort_of whnf conv infer inner i.ty) (abstraction_made whnf conv infer n a s i) (law_sort_of inner i.ty)
-      (λ r. law_made (Product n a i.ty) _ (law_ended _))
+      (λ r. law_made (Prod n a i.ty) _ (law_ended _))
 
-  law_abstraction : (ctx : List Hyp) (n : List ℕ) (a b : Tree) (s : Sorted) → KeepsLawOfFuel (abstraction_type whnf conv infer ctx n a b s)
+  law_abstraction : (ctx : List Hyp) (n : List ℕ) (a b : Tree) (s : InferredSort) → KeepsLawOfFuel (abstraction_type whnf conv infer ctx n a b s)
   law_abstraction ctx n a b s =
       law_within ctx (plain_hyp n a) (body_type whnf conv infer n a b s)
       (λ inner. law_then (infer inner b) (body_type_sort whnf conv infer n a s inner) (infers inner b) (law_body_sort n a s inner))
@@ -91,38 +91,38 @@ module _ (whnf : List Hyp → Tree → ℕ → Ran Tree) (conv : List Hyp → Mo
   law_applied : (ctx : List Hyp) (v a b : Tree) (used : List ℕ) → KeepsLawOfFuel (applied_to whnf conv infer ctx v a b used)
   law_applied ctx v a b used =
       law_then (check whnf conv infer ctx v a) (argument_put whnf conv infer b v used) (law_check ctx v a)
-      (λ more. law_made (substituted b v 0) _ (law_ended _))
+      (λ more. law_made (subst_of b v 0) _ (law_ended _))
 
   law_must_be_product : (ctx : List Hyp) (v : Tree) (used : List ℕ) (t : Tree) → KeepsLawOfFuel (must_be_product whnf conv infer ctx v used t)
-  law_must_be_product ctx v used (Product n a b) =
-      law_then (sort_of whnf conv infer ctx (Product n a b)) (reduced_product whnf conv infer ctx v a b used) (law_sort_of ctx (Product n a b))
+  law_must_be_product ctx v used (Prod n a b) =
+      law_then (sort_of whnf conv infer ctx (Prod n a b)) (reduced_product whnf conv infer ctx v a b used) (law_sort_of ctx (Prod n a b))
       (λ s. law_applied ctx v a b (union used s.used))
   law_must_be_product ctx v used _ = law_ended _
 
   law_function : (ctx : List Hyp) (v t : Tree) (used : List ℕ) → KeepsLawOfFuel (function_type whnf conv infer ctx v t used)
-  law_function ctx v (Product n a b) used = law_applied ctx v a b used
+  law_function ctx v (Prod n a b) used = law_applied ctx v a b used
   law_function ctx v t used = law_then (whnf ctx t) (must_be_product whnf conv infer ctx v used) (whnfs ctx t) (law_must_be_product ctx v used)
 
   law_let_body : (t b : Tree) (used : List ℕ) (inner : List Hyp) → KeepsLawOfFuel (let_body whnf conv infer t b used inner)
   law_let_body t b used inner =
-      law_then (infer inner b) (value_put whnf conv infer t used) (infers inner b) (λ i. law_made (substituted i.ty t 0) _ (law_ended _))
+      law_then (infer inner b) (value_put whnf conv infer t used) (infers inner b) (λ i. law_made (subst_of i.ty t 0) _ (law_ended _))
 
-  law_let : (ctx : List Hyp) (n : List ℕ) (a t b : Tree) (s : Sorted) → KeepsLawOfFuel (let_type whnf conv infer ctx n a t b s)
+  law_let : (ctx : List Hyp) (n : List ℕ) (a t b : Tree) (s : InferredSort) → KeepsLawOfFuel (let_type whnf conv infer ctx n a t b s)
   law_let ctx n a t b s =
       law_then (check whnf conv infer ctx t a) (let_checked whnf conv infer ctx n a t b s.used) (law_check ctx t a)
       (λ more. law_within ctx (defined_hyp n a t) (let_body whnf conv infer t b (union s.used more)) (law_let_body t b (union s.used more)))
 
   law_type_of : (env : List Slot) (ctx : List Hyp) (t : Tree) → KeepsLawOfFuel (type_of whnf conv infer env ctx t)
-  law_type_of env ctx (Variable i) = law_known (type_of_variable ctx i) []
-  law_type_of env ctx (Universe s) = law_sort_typed (type_of_sort s)
-  law_type_of env ctx (Const c) = law_known (type_of_global env c) (c ∷ [])
-  law_type_of env ctx (Product n a b) =
+  law_type_of env ctx (Var i) = law_known (type_of_variable ctx i) []
+  law_type_of env ctx (Sorted s) = law_sort_typed (type_of_sort s)
+  law_type_of env ctx (Constant c) = law_known (type_of_global env c) (c ∷ [])
+  law_type_of env ctx (Prod n a b) =
       law_then (sort_of whnf conv infer ctx a) (product_type whnf conv infer ctx n a b) (law_sort_of ctx a) (law_product ctx n a b)
-  law_type_of env ctx (Lambda n a b) =
+  law_type_of env ctx (Lam n a b) =
       law_then (sort_of whnf conv infer ctx a) (abstraction_type whnf conv infer ctx n a b) (law_sort_of ctx a) (law_abstraction ctx n a b)
-  law_type_of env ctx (Let n a t b) =
+  law_type_of env ctx (LetIn n a t b) =
       law_then (sort_of whnf conv infer ctx a) (let_type whnf conv infer ctx n a t b) (law_sort_of ctx a) (law_let ctx n a t b)
-  law_type_of env ctx (Apply f v) =
+  law_type_of env ctx (App f v) =
       law_then (infer ctx f) (application_type whnf conv infer ctx v) (infers ctx f) (λ i. law_function ctx v i.ty i.used)
 
 pub fuel_of_inference : FuelOfInference
@@ -145,14 +145,14 @@ module _ (env : List Slot) (calls : ℕ) where
       (fuel_of_conversion env calls) (fuel_of_inference env calls) ctx t wanted
 
 law_domain : (row : List Hyp → Tree → ℕ → Ran RowSorted) → ((inner : List Hyp) (t : Tree) → KeepsLawOfFuel (row inner t)) →
-    (ctx : List Hyp) (n : List ℕ) (a b : Tree) (s : Sorted) → KeepsLawOfFuel (domain_row row ctx n a b s)
+    (ctx : List Hyp) (n : List ℕ) (a b : Tree) (s : InferredSort) → KeepsLawOfFuel (domain_row row ctx n a b s)
 law_domain row rows ctx n a b s =
     law_within ctx (plain_hyp n a) (codomain_row row b s) (λ inner. law_then (row inner b) (with_domain s) (rows inner b) (λ r. law_ended _))
 
 law_row : (env : List Slot) (calls : ℕ) (ctx : List Hyp) (t : Tree) → KeepsLawOfFuel (row_at env calls ctx t)
 unfolding row_at
 law_row env zero ctx t = law_ended (Err (Out DepthLimit))
-law_row env (suc calls) ctx (Product n a b) =
+law_row env (suc calls) ctx (Prod n a b) =
     law_charge 1 (λ left. then_do (sort_of_at env calls ctx a left) (domain_row (row_at env calls) ctx n a b))
     (law_then (sort_of_at env calls ctx a) (domain_row (row_at env calls) ctx n a b) (law_sort env calls ctx a)
     (law_domain (row_at env calls) (law_row env calls) ctx n a b))
@@ -189,7 +189,7 @@ module _ (d : InductiveDecl) where
         law_then (rows_of d inner (length env) calls ctx d.ctors) (settled d (length env) s used) (law_rows inner (length env) calls ctx d.ctors)
         (law_settled (length env) s used)
 
-    law_arity : (opened : Opened) (r : Sorted) → KeepsLawOfFuel (arity_sorted d env calls s opened r)
+    law_arity : (opened : Opened) (r : InferredSort) → KeepsLawOfFuel (arity_sorted d env calls s opened r)
     law_arity opened r =
         law_made (type_of_decl d) (type_assumed d env calls s opened.ctx (union opened.used r.used))
         (law_then (ended (entered env (assumed_type d))) (constructors_judged d env calls s opened.ctx (union opened.used r.used)) (law_ended _)
@@ -201,14 +201,14 @@ module _ (d : InductiveDecl) where
 
 module _ (env : List Slot) (calls : ℕ) where
   law_by_arity : (d : InductiveDecl) (t : Tree) → KeepsLawOfFuel (by_arity env calls d t)
-  law_by_arity d (Universe s) =
+  law_by_arity d (Sorted s) =
       law_then (open_params env calls d.params [] []) (params_opened d env calls s) (law_params env calls d.params [] []) (law_opened d env calls s)
   law_by_arity d _ = law_ended _
 
   law_inductive : (d : InductiveDecl) → KeepsLawOfFuel (check_inductive_at env calls d)
   law_inductive d =
       law_if (has_twice (names_of d)) (refused 34) _ (law_ended _)
-      (law_if (any_taken env (names_of d)) (refused 25) (by_arity env calls d (end_of d.arity)) (law_ended _) (law_by_arity d (end_of d.arity)))
+      (law_if (any_taken env (names_of d)) (refused 25) (by_arity env calls d (end_of_products d.arity)) (law_ended _) (law_by_arity d (end_of_products d.arity)))
 
   law_all_made : (es : List Entry) (rest : ℕ → Ran (List Slot)) → KeepsLawOfFuel rest → KeepsLawOfFuel (all_made env es rest)
   law_all_made [] rest law = law

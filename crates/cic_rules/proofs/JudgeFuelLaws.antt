@@ -3,7 +3,7 @@ use Rattle.std.specs.Prelude.{if◌then◌else◌}
 use Rattle.std.proofs.Common.{ℕ, zero, suc, ◌≤◌, ◌==◌, nat_lt, List, ◌∷◌, length, Bool, true, false, Option, Some, None, Ok, Err, arith}
 use Rattle.base_core.specs.declared.refusals.Stop.TheVariants.{Out}
 use Rattle.base_core.specs.declared.refusals.Limit.TheVariants.{DepthLimit}
-use Rattle.core_term.specs.Tree.{Tree, Variable, Universe, Const, Product, Lambda, Let, same_tree}
+use Rattle.core_term.specs.Tree.{Tree, Var, Sorted, Constant, Prod, Lam, LetIn, same_tree}
 use Rattle.cic_rules.specs.declared.context.Hyp.{Hyp}
 use Rattle.cic_rules.specs.declared.env.Slot.{Slot}
 use Rattle.cic_rules.specs.declared.judge.Mode.{Mode}
@@ -35,10 +35,10 @@ global_paid None None args = tt
 
 module _ (env : List Slot) (delta : Bool) where
   step_paid : (ctx : List Hyp) (h : Tree) (args : List Tree) → IsPaid (step_of env delta ctx h args)
-  step_paid ctx (Lambda n a b) (v ∷ args) = omega arith
-  step_paid ctx (Let n a t b) args = omega arith
-  step_paid ctx (Variable i) args = unfolded_paid (value_of_variable ctx i) args
-  step_paid ctx (Const c) args = global_paid (if delta then body_of_global env c else None) (awaited env (Const c) args) args
+  step_paid ctx (Lam n a b) (v ∷ args) = omega arith
+  step_paid ctx (LetIn n a t b) args = omega arith
+  step_paid ctx (Var i) args = unfolded_paid (value_of_variable ctx i) args
+  step_paid ctx (Constant c) args = global_paid (if delta then body_of_global env c else None) (awaited env (Constant c) args) args
   step_paid ctx _ args = tt
 
   law_contracted : (to : Tree) → KeepsLawOfFuel (contracted env delta to)
@@ -81,7 +81,7 @@ module _ (env : List Slot) (head : Tree → ℕ → Ran Tree) (heads : (t : Tree
 
   law_blocker : (inner : Tree → ℕ → Ran (Option Blocker)) → ((t : Tree) → KeepsLawOfFuel (inner t)) → (t h : Tree) (body value : Option Tree) →
       KeepsLawOfFuel (blocker_by env head inner t h body value)
-  law_blocker inner laws t (Const c) (Some body) value = law_ended _
+  law_blocker inner laws t (Constant c) (Some body) value = law_ended _
   law_blocker inner laws t h None (Some value) =
       law_then (λ left. then_do (head value left) inner) (put_back env head t (eliminator_of env h)) (law_then (head value) inner (heads value) laws)
       (λ b. law_put_back t (eliminator_of env h) b)
@@ -138,8 +138,8 @@ module _ (env : List Slot) (calls : ℕ) (head : List Hyp → Tree → ℕ → R
       (turn_unblock ctx t u)
 
   turn_heads : (ctx : List Hyp) (t u g h : Tree) → IsTurn (by_heads env calls head conv ctx t u g h)
-  turn_heads ctx t u (Variable i) (Variable j) = turn_if (i == j) (spines env calls head conv ctx t u) _ (turn_spines ctx t u) (turn_unblock ctx t u)
-  turn_heads ctx t u (Const c) (Const d) = turn_if (c == d) (spines env calls head conv ctx t u) _ (turn_spines ctx t u) (turn_unblock ctx t u)
+  turn_heads ctx t u (Var i) (Var j) = turn_if (i == j) (spines env calls head conv ctx t u) _ (turn_spines ctx t u) (turn_unblock ctx t u)
+  turn_heads ctx t u (Constant c) (Constant d) = turn_if (c == d) (spines env calls head conv ctx t u) _ (turn_spines ctx t u) (turn_unblock ctx t u)
   turn_heads ctx t u _ _ = turn_unblock ctx t u
 
   law_under_binder : (ctx : List Hyp) (n : List ℕ) (a : Tree) (mode : Mode) (t u : Tree) → KeepsLawOfFuel (under_binder env calls head conv ctx n a mode t u)
@@ -154,9 +154,9 @@ module _ (env : List Slot) (calls : ℕ) (head : List Hyp → Tree → ℕ → R
       (λ answer. turn_final answer)
 
   turn_compared : (ctx : List Hyp) (mode : Mode) (t u : Tree) → IsTurn (compared env calls head conv ctx mode t u)
-  turn_compared ctx mode (Universe s) (Universe r) = turn_final (sorts_fit mode s r)
-  turn_compared ctx mode (Product n a b) (Product m c d) = turn_parts ctx n a c mode b d
-  turn_compared ctx mode (Lambda n a b) (Lambda m c d) = turn_parts ctx n a c Same b d
+  turn_compared ctx mode (Sorted s) (Sorted r) = turn_final (sorts_fit mode s r)
+  turn_compared ctx mode (Prod n a b) (Prod m c d) = turn_parts ctx n a c mode b d
+  turn_compared ctx mode (Lam n a b) (Lam m c d) = turn_parts ctx n a c Same b d
   turn_compared ctx mode t u = turn_heads ctx t u (head_of t) (head_of u)
 
   turn_convert : (ctx : List Hyp) (mode : Mode) (sides : Sides) → IsTurn (convert_turn env calls head conv ctx mode sides)

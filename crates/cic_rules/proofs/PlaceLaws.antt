@@ -5,7 +5,7 @@ use Rattle.std.specs.Prelude.{insert}
 use Rattle.std.specs.Cmp.Lexicographic.{slice_cmp, nat_list_cmp_total}
 use Rattle.std.specs.Ordering.{nat_cmp}
 use Rattle.core_term.specs.declared.sorts.Sort.{Sort}
-use Rattle.core_term.specs.Tree.{Tree, Universe}
+use Rattle.core_term.specs.Tree.{Tree, Sorted}
 use Rattle.shared_map.specs.Entries.{look}
 use Rattle.shared_map.proofs.EntriesLaws.{look-put, look-last, in_order-put}
 use Rattle.cic_rules.specs.declared.decls.InductiveDecl.{InductiveDecl}
@@ -71,7 +71,7 @@ length_slotted d [] = refl
 length_slotted d (e ∷ es) = ap suc (length_slotted None es)
 
 -- an assumption of a sort, which uses nothing, may be entered under a new name
-pub may_assume : (env : List Slot) (e : Entry) (s : Sort) → IsNew env e.name → e.ty ≡ Universe s → e.kind ≡ Assumed → e.used ≡ [] → MayEnter env e
+pub may_assume : (env : List Slot) (e : Entry) (s : Sort) → IsNew env e.name → e.ty ≡ Sorted s → e.kind ≡ Assumed → e.used ≡ [] → MayEnter env e
 may_assume env e s new ty kind used =
     record {
       new = new;

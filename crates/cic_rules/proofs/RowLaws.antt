@@ -1,14 +1,14 @@
 -- The sort of a row of products is the one that `sort_of` finds, for the same units and with the same names.
 use Rattle.std.proofs.Common.{◌≡◌, ℕ, zero, suc, ◌-◌, nat_le, List, Bool, true, false, Result, Ok, Err, refl, sym, ap, ◌∙◌}
 use Rattle.base_core.specs.declared.refusals.Stop.{Stop}
-use Rattle.core_term.specs.Tree.{Tree, Variable, Universe, Const, Product, Lambda, Let, Apply}
+use Rattle.core_term.specs.Tree.{Tree, Var, Sorted, Constant, Prod, Lam, LetIn, App}
 use Rattle.cic_rules.specs.declared.context.Hyp.{Hyp}
 use Rattle.cic_rules.specs.declared.env.Slot.{Slot}
 use Rattle.cic_rules.specs.declared.judge.Inferred.{Inferred}
 use Rattle.cic_rules.specs.Contexts.{extended, plain_hyp}
 use Rattle.cic_rules.specs.Reduce.{whnf_at}
 use Rattle.cic_rules.specs.Convert.{conv_at}
-use Rattle.cic_rules.specs.Infer.{Sorted, infer_at, sort_of_at, sort_of_type, codomain_sort, product_sorted, product_type}
+use Rattle.cic_rules.specs.Infer.{InferredSort, infer_at, sort_of_at, sort_of_type, codomain_sort, product_sorted, product_type}
 use Rattle.cic_rules.specs.Inductive.{row_at, no_domains, with_domain, codomain_row, domain_row}
 use Rattle.cic_rules.specs.Laws.{domains_forgotten, RowsAreSorted}
 use Rattle.cic_rules.specs.Runs.{Ran, ended, charge, with_answer, then_do}
@@ -42,31 +42,31 @@ pub charge_then : {A B : Type 0} (units left : ℕ) (f : ℕ → Ran A) (g : A �
     ((l : ℕ) → then_do (f l) g ≡ h l) → then_do (charge units f left) g ≡ charge units h left
 charge_then units left f g h same = charge_then_by (nat_le units left) left f g h same units refl
 
-forgotten_by : (answer : Result Sorted Stop) (left : ℕ) →
+forgotten_by : (answer : Result InferredSort Stop) (left : ℕ) →
     with_answer answer (λ s l. then_do (no_domains s l) domains_forgotten) left ≡ ended answer left
 forgotten_by (Ok s) left = refl
 forgotten_by (Err stop) left = refl
 
 -- a type that is no product
-no_product : (r : Ran Sorted) → then_do (then_do r no_domains) domains_forgotten ≡ r
+no_product : (r : Ran InferredSort) → then_do (then_do r no_domains) domains_forgotten ≡ r
 no_product r = then_then r no_domains domains_forgotten ∙ forgotten_by r.answer r.left
 
 module _ (env : List Slot) (calls : ℕ) (ctx : List Hyp) (n : List ℕ) (a b : Tree)
     (same : (inner : List Hyp) (left : ℕ) → then_do (row_at env calls inner b left) domains_forgotten ≡ sort_of_at env calls inner b left) where
   -- the sort of the product, once its type was inferred
-  abbrev sort_found : Inferred → ℕ → Ran Sorted
+  abbrev sort_found : Inferred → ℕ → Ran InferredSort
   sort_found = sort_of_type (whnf_at env true (suc calls)) (conv_at env (suc calls)) (infer_at env (suc calls)) ctx
 
-  abbrev codomain_found : Sorted → List Hyp → ℕ → Ran Inferred
+  abbrev codomain_found : InferredSort → List Hyp → ℕ → Ran Inferred
   codomain_found = codomain_sort (whnf_at env true calls) (conv_at env calls) (infer_at env calls) b
 
-  abbrev product_made : Sorted → Sorted → ℕ → Ran Inferred
+  abbrev product_made : InferredSort → InferredSort → ℕ → Ran Inferred
   product_made = product_sorted (whnf_at env true calls) (conv_at env calls) (infer_at env calls)
 
-  abbrev product_found : Sorted → ℕ → Ran Inferred
+  abbrev product_found : InferredSort → ℕ → Ran Inferred
   product_found = product_type (whnf_at env true calls) (conv_at env calls) (infer_at env calls) ctx n a b
 
-  codomain_same : (s : Sorted) (inner : List Hyp) (left : ℕ) →
+  codomain_same : (s : InferredSort) (inner : List Hyp) (left : ℕ) →
       then_do (codomain_row (row_at env calls) b s inner left) domains_forgotten ≡ then_do (codomain_found s inner left) sort_found
   codomain_same s inner left =
       then_then (row_at env calls inner b left) (with_domain s) domains_forgotten
@@ -74,7 +74,7 @@ module _ (env : List Slot) (calls : ℕ) (ctx : List Hyp) (n : List ℕ) (a b : 
       ∙ sym (then_then (then_do (row_at env calls inner b left) domains_forgotten) (product_made s) sort_found)
       ∙ ap (λ r. then_do (then_do r (product_made s)) sort_found) (same inner left)
 
-  domain_same : (s : Sorted) (left : ℕ) →
+  domain_same : (s : InferredSort) (left : ℕ) →
       then_do (domain_row (row_at env calls) ctx n a b s left) domains_forgotten ≡ then_do (product_found s left) sort_found
   domain_same s left =
       let inner : Ran (List Hyp) = ended (extended ctx (plain_hyp n a)) left in
@@ -90,7 +90,7 @@ module _ (env : List Slot) (calls : ℕ) (ctx : List Hyp) (n : List ℕ) (a b : 
       ∙ then_same (sort_of_at env calls ctx a left) _ _ domain_same
       ∙ sym (then_then (sort_of_at env calls ctx a left) product_found sort_found)
 
-  paid_same : (left : ℕ) → then_do (row_at env (suc calls) ctx (Product n a b) left) domains_forgotten ≡ sort_of_at env (suc calls) ctx (Product n a b) left
+  paid_same : (left : ℕ) → then_do (row_at env (suc calls) ctx (Prod n a b) left) domains_forgotten ≡ sort_of_at env (suc calls) ctx (Prod n a b) left
   unfolding row_at infer_at
   paid_same left =
       charge_then 1 left (λ k. then_do (sort_of_at env calls ctx a k) (domain_row (row_at env calls) ctx n a b)) domains_forgotten
@@ -101,10 +101,10 @@ module _ (env : List Slot) (calls : ℕ) (ctx : List Hyp) (n : List ℕ) (a b : 
 pub rows_are_sorted : RowsAreSorted
 unfolding row_at infer_at
 rows_are_sorted env zero ctx t left = refl
-rows_are_sorted env (suc calls) ctx (Product n a b) left = paid_same env calls ctx n a b (λ inner l. rows_are_sorted env calls inner b l) left
-rows_are_sorted env (suc calls) ctx (Variable i) left = no_product (sort_of_at env (suc calls) ctx (Variable i) left)
-rows_are_sorted env (suc calls) ctx (Universe s) left = no_product (sort_of_at env (suc calls) ctx (Universe s) left)
-rows_are_sorted env (suc calls) ctx (Const c) left = no_product (sort_of_at env (suc calls) ctx (Const c) left)
-rows_are_sorted env (suc calls) ctx (Lambda n a b) left = no_product (sort_of_at env (suc calls) ctx (Lambda n a b) left)
-rows_are_sorted env (suc calls) ctx (Let n a u b) left = no_product (sort_of_at env (suc calls) ctx (Let n a u b) left)
-rows_are_sorted env (suc calls) ctx (Apply f v) left = no_product (sort_of_at env (suc calls) ctx (Apply f v) left)
+rows_are_sorted env (suc calls) ctx (Prod n a b) left = paid_same env calls ctx n a b (λ inner l. rows_are_sorted env calls inner b l) left
+rows_are_sorted env (suc calls) ctx (Var i) left = no_product (sort_of_at env (suc calls) ctx (Var i) left)
+rows_are_sorted env (suc calls) ctx (Sorted s) left = no_product (sort_of_at env (suc calls) ctx (Sorted s) left)
+rows_are_sorted env (suc calls) ctx (Constant c) left = no_product (sort_of_at env (suc calls) ctx (Constant c) left)
+rows_are_sorted env (suc calls) ctx (Lam n a b) left = no_product (sort_of_at env (suc calls) ctx (Lam n a b) left)
+rows_are_sorted env (suc calls) ctx (LetIn n a u b) left = no_product (sort_of_at env (suc calls) ctx (LetIn n a u b) left)
+rows_are_sorted env (suc calls) ctx (App f v) left = no_product (sort_of_at env (suc calls) ctx (App f v) left)

@@ -4,7 +4,7 @@ use Rattle.base_core.specs.declared.refusals.Stop.{Stop}
 use Rattle.base_core.specs.declared.refusals.Stop.TheVariants.{Out}
 use Rattle.base_core.specs.declared.refusals.Limit.TheVariants.{SizeLimit}
 use Rattle.core_term.specs.Tree.{Tree, free_bound}
-use Rattle.core_term.specs.Places.{lifted}
+use Rattle.core_term.specs.Places.{lift_of}
 use Rattle.cic_rules.specs.declared.context.Hyp.{Hyp}
 
 -- the free variables of a term are in a context of n hypotheses
@@ -51,7 +51,7 @@ defined_hyp name ty value = record { name = name; ty = ty; value = Some value }
 
 abbrev lifted_type : ℕ → Option Hyp → Option Tree
 lifted_type i None = None
-lifted_type i (Some h) = Some (lifted h.ty (suc i) 0)
+lifted_type i (Some h) = Some (lift_of h.ty (suc i) 0)
 
 -- the type of a variable, as it stands in the whole context
 abbrev pub type_of_variable : List Hyp → ℕ → Option Tree
@@ -59,7 +59,7 @@ type_of_variable ctx i = lifted_type i (slice_get ctx i)
 
 abbrev lifted_if_any : ℕ → Option Tree → Option Tree
 lifted_if_any i None = None
-lifted_if_any i (Some t) = Some (lifted t (suc i) 0)
+lifted_if_any i (Some t) = Some (lift_of t (suc i) 0)
 
 abbrev lifted_value : ℕ → Option Hyp → Option Tree
 lifted_value i None = None

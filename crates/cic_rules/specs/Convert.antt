@@ -3,7 +3,7 @@ use Rattle.std.specs.Prelude.{ℕ, zero, suc, ◌==◌, nat_lt, List, ◌∷◌,
 use Rattle.base_core.specs.declared.refusals.Limit.TheVariants.{DepthLimit}
 use Rattle.core_term.specs.declared.sorts.Sort.{Sort}
 use Rattle.core_term.specs.Sorts.{sort_below}
-use Rattle.core_term.specs.Tree.{Tree, Variable, Universe, Const, Product, Lambda, size_of, same_sort, same_tree}
+use Rattle.core_term.specs.Tree.{Tree, Var, Sorted, Constant, Prod, Lam, size_of, same_sort, same_tree}
 use Rattle.cic_rules.specs.declared.context.Hyp.{Hyp}
 use Rattle.cic_rules.specs.declared.env.Slot.{Slot}
 use Rattle.cic_rules.specs.declared.judge.Mode.{Mode}
@@ -55,14 +55,14 @@ module _ (env : List Slot) (head : Tree → ℕ → Ran Tree) where
   put_back t _ _ left = done None left
 
   abbrev pub blocker_by : (Tree → ℕ → Ran (Option Blocker)) → Tree → Tree → Option Tree → Option Tree → ℕ → Ran (Option Blocker)
-  blocker_by inner t (Const c) (Some body) value left =
+  blocker_by inner t (Constant c) (Some body) value left =
       done (Some (record { place = c; replaced = apply_all body (arguments_of t) })) left
   blocker_by inner t h None (Some value) left =
       then_do (then_do (head value left) inner) (put_back t (eliminator_of env h))
   blocker_by inner t h _ _ left = done None left
 
   abbrev body_of_head : Tree → Option Tree
-  body_of_head (Const c) = body_of_global env c
+  body_of_head (Constant c) = body_of_global env c
   body_of_head t = None
 
   -- the blocker of a side, through so many values in one another: its head where that is a transparent definition, or for
@@ -121,8 +121,8 @@ module _ (env : List Slot) (calls : ℕ) (head : List Hyp → Tree → ℕ → R
       else unblock ctx t u left
 
   abbrev pub by_heads : List Hyp → Tree → Tree → Tree → Tree → ℕ → Ran (Turn Sides Bool)
-  by_heads ctx t u (Variable i) (Variable j) left = if i == j then spines ctx t u left else unblock ctx t u left
-  by_heads ctx t u (Const c) (Const d) left = if c == d then spines ctx t u left else unblock ctx t u left
+  by_heads ctx t u (Var i) (Var j) left = if i == j then spines ctx t u left else unblock ctx t u left
+  by_heads ctx t u (Constant c) (Constant d) left = if c == d then spines ctx t u left else unblock ctx t u left
   by_heads ctx t u _ _ left = unblock ctx t u left
 
   -- under a binder the context has the left side's
@@ -131,10 +131,10 @@ module _ (env : List Slot) (calls : ℕ) (head : List Hyp → Tree → ℕ → R
 
   -- two sides whose heads were reached
   abbrev pub compared : List Hyp → Mode → Tree → Tree → ℕ → Ran (Turn Sides Bool)
-  compared ctx mode (Universe s) (Universe r) left = final (sorts_fit mode s r) left
-  compared ctx mode (Product n a b) (Product m c d) left =
+  compared ctx mode (Sorted s) (Sorted r) left = final (sorts_fit mode s r) left
+  compared ctx mode (Prod n a b) (Prod m c d) left =
       then_do (then_do (conv ctx Same a c left) (and_then (under_binder ctx n a mode b d))) final
-  compared ctx mode (Lambda n a b) (Lambda m c d) left =
+  compared ctx mode (Lam n a b) (Lam m c d) left =
       then_do (then_do (conv ctx Same a c left) (and_then (under_binder ctx n a Same b d))) final
   compared ctx mode t u left = by_heads ctx t u (head_of t) (head_of u) left
 

@@ -10,7 +10,7 @@ use Rattle.cic_rules.specs.declared.entries.EntryKind.TheVariants.{Assumed, Admi
 use Rattle.cic_rules.specs.declared.env.Slot.{Slot}
 use Rattle.cic_rules.specs.declared.judge.Inferred.{Inferred}
 use Rattle.cic_rules.specs.Environments.{is_taken, entered, all_entered, slotted}
-use Rattle.cic_rules.specs.Infer.{union, Sorted, infer_at, sort_of_at, check_at}
+use Rattle.cic_rules.specs.Infer.{union, InferredSort, infer_at, sort_of_at, check_at}
 use Rattle.cic_rules.specs.Eliminators.{family_entries}
 use Rattle.cic_rules.specs.Inductive.{Checked, check_inductive_at}
 use Rattle.cic_rules.specs.Runs.{Ran, ended, refused, then_do, made}
@@ -21,7 +21,7 @@ module _ (env : List Slot) where
   enter name ty kind used left = ended (entered env (record { name = name; ty = ty; kind = kind; used = used })) left
 
   -- an assumption or an admitted theorem, whose type has a sort
-  abbrev pub type_sorted : List ℕ → Tree → EntryKind → Sorted → ℕ → Ran (List Slot)
+  abbrev pub type_sorted : List ℕ → Tree → EntryKind → InferredSort → ℕ → Ran (List Slot)
   type_sorted name ty kind s left = enter name ty kind s.used left
 
   -- a definition with a type: the type has a sort, and the body is checked against it
@@ -29,7 +29,7 @@ module _ (env : List Slot) where
   body_checked name ty kind used more left = enter name ty kind (union used more) left
 
   -- a definition without: the type that is found must have a sort
-  abbrev pub found_sorted : List ℕ → EntryKind → Inferred → Sorted → ℕ → Ran (List Slot)
+  abbrev pub found_sorted : List ℕ → EntryKind → Inferred → InferredSort → ℕ → Ran (List Slot)
   found_sorted name kind i s left = enter name i.ty kind (union i.used s.used) left
 
   abbrev pub all_made : List Entry → (ℕ → Ran (List Slot)) → ℕ → Ran (List Slot)
@@ -44,7 +44,7 @@ module _ (env : List Slot) where
   family_checked d c left = family_made d (family_entries env d c.used c.sorts) left
 
   module _ (calls : ℕ) where
-    abbrev pub check_body : List ℕ → Tree → Tree → EntryKind → Sorted → ℕ → Ran (List Slot)
+    abbrev pub check_body : List ℕ → Tree → Tree → EntryKind → InferredSort → ℕ → Ran (List Slot)
     check_body name ty body kind s left = then_do (check_at env calls [] body ty left) (body_checked name ty kind s.used)
 
     abbrev pub sort_found : List ℕ → EntryKind → Inferred → ℕ → Ran (List Slot)

@@ -3,7 +3,7 @@ use Rattle.std.specs.Prelude.{ℕ, zero, suc, ◌+◌, ◌/◌, ◌%◌, nat_le,
 use Rattle.std.specs.Cmp.Lexicographic.{pointwise}
 use Rattle.core_term.specs.declared.sorts.Sort.{Sort}
 use Rattle.core_term.specs.declared.sorts.Sort.TheVariants.{PropSort, SetSort, TypeSort}
-use Rattle.core_term.specs.Tree.{Tree, Variable, Universe, Const, Product, Apply}
+use Rattle.core_term.specs.Tree.{Tree, Var, Sorted, Constant, Prod, App}
 use Rattle.cic_rules.specs.declared.context.Hyp.{Hyp}
 use Rattle.cic_rules.specs.declared.decls.InductiveDecl.{InductiveDecl}
 use Rattle.cic_rules.specs.declared.decls.Ctor.{Ctor}
@@ -11,7 +11,7 @@ use Rattle.cic_rules.specs.declared.entries.Entry.{Entry}
 use Rattle.cic_rules.specs.declared.entries.EntryKind.TheVariants.{Inductive, Constructor, Eliminator}
 use Rattle.cic_rules.specs.declared.env.Slot.{Slot}
 use Rattle.cic_rules.specs.Environments.{decl_at}
-use Rattle.cic_rules.specs.Rows.{head_of, apply_all, end_of, over, mentions, deeper, all_deeper, applied_deeper, own_variables, put_all, put_each, under}
+use Rattle.cic_rules.specs.Rows.{head_of, apply_all, end_of_products, products_over, mentions, shift, shift_all, eta_body, variables_of, instantiate, instantiate_all, values_under}
 use Rattle.cic_rules.specs.Families.{count_params, count_ctors, indices, newest_first}
 
 -- one name
@@ -61,12 +61,12 @@ initial [] other = other ∷ []
 initial (b ∷ _) other = one_letter (lower_letter b) other
 
 abbrev pub is_prop : Tree → Bool
-is_prop (Universe PropSort) = true
+is_prop (Sorted PropSort) = true
 is_prop _ = false
 
 -- whether an inductive type is a proposition
 abbrev pub is_in_prop : InductiveDecl → Bool
-is_in_prop d = is_prop (end_of d.arity)
+is_in_prop d = is_prop (end_of_products d.arity)
 
 -- the letter H
 abbrev initial_of : Option InductiveDecl → List ℕ
@@ -74,7 +74,7 @@ initial_of None = 72 ∷ []
 initial_of (Some d) = if is_in_prop d then 72 ∷ [] else initial d.name 72
 
 abbrev initial_of_head : List Slot → Tree → List ℕ
-initial_of_head env (Const c) = initial_of (decl_at env c)
+initial_of_head env (Constant c) = initial_of (decl_at env c)
 initial_of_head env _ = 72 ∷ []
 
 -- what a binder `_` of this type is called: the first letter of the inductive type not in Prop that heads the type, else H
@@ -107,10 +107,10 @@ value_name d = initial d.name 120
 
 -- the type of an inductive type, and of one of its constructors
 abbrev pub type_of_decl : InductiveDecl → Tree
-type_of_decl d = over d.params d.arity
+type_of_decl d = products_over d.params d.arity
 
 abbrev pub type_of_ctor : InductiveDecl → Ctor → Tree
-type_of_ctor d c = over d.params c.ty
+type_of_ctor d c = products_over d.params c.ty
 
 abbrev pub hyp_names : List Hyp → List (List ℕ)
 hyp_names [] = []
@@ -127,45 +127,45 @@ pub record Scope : Type 0 where
 -- a binder that is an argument of the constructor, and one that is not
 abbrev pub with_argument : List ℕ → Scope → Scope
 with_argument n s =
-    record { motive = deeper s.motive; built = applied_deeper s.built; values = under s.values; names = n ∷ s.names }
+    record { motive = shift s.motive; built = eta_body s.built; values = values_under s.values; names = n ∷ s.names }
 
 abbrev pub with_binder : List ℕ → Scope → Scope
 with_binder n s =
-    record { motive = deeper s.motive; built = deeper s.built; values = all_deeper s.values; names = n ∷ s.names }
+    record { motive = shift s.motive; built = shift s.built; values = shift_all s.values; names = n ∷ s.names }
 
 module _ (env : List Slot) (place : ℕ) (d : InductiveDecl) where
   -- the motive speaks of the value too, where the type is no proposition
   abbrev pub of_value : Tree → Tree → Tree
-  of_value motive value = if is_in_prop d then motive else Apply motive value
+  of_value motive value = if is_in_prop d then motive else App motive value
 
   -- what a recursive argument's hypothesis says, under the argument's own products
   abbrev pub hypothesis : Tree → Tree → List Tree → Tree → Tree
-  hypothesis motive x values (Product n a b) =
-      Product n (put_all values a) (hypothesis (deeper motive) (applied_deeper x) (under values) b)
-  hypothesis motive x values t = of_value (apply_all motive (put_each values (indices (count_params d) t))) x
+  hypothesis motive x values (Prod n a b) =
+      Prod n (instantiate values a) (hypothesis (shift motive) (eta_body x) (values_under values) b)
+  hypothesis motive x values t = of_value (apply_all motive (instantiate_all values (indices (count_params d) t))) x
 
   abbrev pub case_argument : Bool → List ℕ → Tree → Scope → (Scope → Tree) → Tree
-  case_argument false n a s rest = Product n (put_all s.values a) (rest (with_argument n s))
+  case_argument false n a s rest = Prod n (instantiate s.values a) (rest (with_argument n s))
   case_argument true n a s rest =
-      Product n (put_all s.values a)
-      (Product (hypothesis_name n) (hypothesis (deeper s.motive) (Variable 0) (all_deeper s.values) a)
+      Prod n (instantiate s.values a)
+      (Prod (hypothesis_name n) (hypothesis (shift s.motive) (Var 0) (shift_all s.values) a)
       (rest (with_binder (hypothesis_name n) (with_argument n s))))
 
   -- a case: the constructor's arguments, each recursive one followed by its hypothesis, and then the motive at the constructor
   abbrev pub case_type : Scope → Tree → Tree
-  case_type s (Product n a b) = case_argument (mentions place a) (argument_name env s.names n a) a s (λ inner. case_type inner b)
-  case_type s t = of_value (apply_all s.motive (put_each s.values (indices (count_params d) t))) s.built
+  case_type s (Prod n a b) = case_argument (mentions place a) (argument_name env s.names n a) a s (λ inner. case_type inner b)
+  case_type s t = of_value (apply_all s.motive (instantiate_all s.values (indices (count_params d) t))) s.built
 
   -- the indices and the value, and then the motive at them; the family is the type applied to what was met so far
   abbrev pub conclusion : Tree → Tree → List Tree → Tree → Tree
-  conclusion motive family values (Product n a b) =
-      Product n (put_all values a) (conclusion (applied_deeper motive) (applied_deeper family) (under values) b)
-  conclusion motive family values t = Product (value_name d) family (of_value (deeper motive) (Variable 0))
+  conclusion motive family values (Prod n a b) =
+      Prod n (instantiate values a) (conclusion (eta_body motive) (eta_body family) (values_under values) b)
+  conclusion motive family values t = Prod (value_name d) family (of_value (shift motive) (Var 0))
 
   -- the motive's type: from the indices, and where the type is no proposition from the value, to the sort
   abbrev pub motive_type : Tree → Sort → Tree → Tree
-  motive_type family sort (Product n a b) = Product n a (motive_type (applied_deeper family) sort b)
-  motive_type family sort t = if is_in_prop d then Universe sort else Product (value_name d) family (Universe sort)
+  motive_type family sort (Prod n a b) = Prod n a (motive_type (eta_body family) sort b)
+  motive_type family sort t = if is_in_prop d then Sorted sort else Prod (value_name d) family (Sorted sort)
 
   -- a term applied to the parameters, whose values are the newest first
   abbrev pub at_params : Tree → List Tree → Tree
@@ -173,18 +173,18 @@ module _ (env : List Slot) (place : ℕ) (d : InductiveDecl) where
 
   -- the cases from a constructor on, and then the conclusion
   abbrev pub cases : ℕ → List Ctor → Tree → List Tree → List (List ℕ) → Tree
-  cases index [] motive values names = conclusion motive (at_params (Const place) values) values d.arity
+  cases index [] motive values names = conclusion motive (at_params (Constant place) values) values d.arity
   cases index (c ∷ cs) motive values names =
-      Product (case_name c)
-      (case_type (record { motive = motive; built = at_params (Const (place + 1 + index)) values; values = values; names = names }) c.ty)
-      (cases (suc index) cs (deeper motive) (all_deeper values) (case_name c ∷ names))
+      Prod (case_name c)
+      (case_type (record { motive = motive; built = at_params (Constant (place + 1 + index)) values; values = values; names = names }) c.ty)
+      (cases (suc index) cs (shift motive) (shift_all values) (case_name c ∷ names))
 
   -- the type of the eliminator into a sort: parameters, motive, cases, indices and value
   abbrev pub eliminator_type : Sort → Tree
   eliminator_type sort =
-      over d.params
-      (Product MOTIVE (motive_type (apply_all (Const place) (own_variables (count_params d))) sort d.arity)
-      (cases 0 d.ctors (Variable 0) (all_deeper (newest_first (own_variables (count_params d)) [])) (MOTIVE ∷ hyp_names d.params)))
+      products_over d.params
+      (Prod MOTIVE (motive_type (apply_all (Constant place) (variables_of (count_params d))) sort d.arity)
+      (cases 0 d.ctors (Var 0) (shift_all (newest_first (variables_of (count_params d)) [])) (MOTIVE ∷ hyp_names d.params)))
 
 -- the name of the eliminator into a sort: `_ind` into Prop, `_rec` into Set, `_rect` into Type
 abbrev pub eliminator_name : InductiveDecl → Sort → List ℕ

@@ -1,6 +1,6 @@
 -- Inductive types as reduction sees them: their constructors, their eliminators, and the iota rule.
 use Rattle.std.specs.Prelude.{ℕ, zero, suc, ◌+◌, ◌==◌, List, [], ◌∷◌, length, take, drop, Bool, true, false, Option, Some, None, if◌then◌else◌, slice_get}
-use Rattle.core_term.specs.Tree.{Tree, Const, Product, Lambda, Apply}
+use Rattle.core_term.specs.Tree.{Tree, Constant, Prod, Lam, App}
 use Rattle.cic_rules.specs.declared.decls.InductiveDecl.{InductiveDecl}
 use Rattle.cic_rules.specs.declared.decls.Ctor.{Ctor}
 use Rattle.cic_rules.specs.declared.entries.Entry.{Entry}
@@ -8,7 +8,7 @@ use Rattle.cic_rules.specs.declared.entries.EntryKind.{EntryKind}
 use Rattle.cic_rules.specs.declared.entries.EntryKind.TheVariants.{Constructor, Eliminator}
 use Rattle.cic_rules.specs.declared.env.Slot.{Slot}
 use Rattle.cic_rules.specs.Environments.{entry_at, decl_at}
-use Rattle.cic_rules.specs.Rows.{head_of, arguments_of, apply_all, count_products, mentions, deeper, applied_deeper, put_all, put_each, under}
+use Rattle.cic_rules.specs.Rows.{head_of, arguments_of, apply_all, count_products, mentions, shift, eta_body, instantiate, instantiate_all, values_under}
 
 -- an inductive type: its place and its declaration
 pub record Family : Type 0 where
@@ -47,7 +47,7 @@ eliminated_by env (Some e) = eliminated env e.kind
 
 -- the inductive type whose eliminator a head is
 abbrev pub eliminator_of : List Slot → Tree → Option Family
-eliminator_of env (Const c) = eliminated_by env (entry_at env c)
+eliminator_of env (Constant c) = eliminated_by env (entry_at env c)
 eliminator_of env _ = None
 
 abbrev constructed : ℕ → EntryKind → Option ℕ
@@ -60,7 +60,7 @@ constructed_by place (Some e) = constructed place e.kind
 
 -- which constructor of the inductive type at a place a head is
 abbrev pub constructor_of : List Slot → ℕ → Tree → Option ℕ
-constructor_of env place (Const c) = constructed_by place (entry_at env c)
+constructor_of env place (Constant c) = constructed_by place (entry_at env c)
 constructor_of env place _ = None
 
 abbrev value_among : List Tree → Option Family → Option Tree
@@ -89,18 +89,18 @@ module _ (params : ℕ) where
 
   -- an eliminator with its parameters, motive and cases, on a recursive argument whose declared type is given, under the argument's own products
   abbrev pub recursive_call : Tree → Tree → List Tree → Tree → Tree
-  recursive_call eliminator x values (Product n a b) =
-      Lambda n (put_all values a) (recursive_call (deeper eliminator) (applied_deeper x) (under values) b)
-  recursive_call eliminator x values t = Apply (apply_all eliminator (put_each values (indices t))) x
+  recursive_call eliminator x values (Prod n a b) =
+      Lam n (instantiate values a) (recursive_call (shift eliminator) (eta_body x) (values_under values) b)
+  recursive_call eliminator x values t = App (apply_all eliminator (instantiate_all values (indices t))) x
 
   -- a case applied to an argument of this declared type, and where that is recursive to what the eliminator gives for it
   abbrev pub case_applied_to : Bool → Tree → Tree → Tree → List Tree → Tree → Tree
-  case_applied_to false eliminator case v values a = Apply case v
-  case_applied_to true eliminator case v values a = Apply (Apply case v) (recursive_call eliminator v values a)
+  case_applied_to false eliminator case v values a = App case v
+  case_applied_to true eliminator case v values a = App (App case v) (recursive_call eliminator v values a)
 
   -- a case applied to all arguments of its constructor, whose declared type is given; values stand for the parameters and the arguments so far
   abbrev pub case_applied : ℕ → Tree → Tree → List Tree → Tree → List Tree → Tree
-  case_applied place eliminator case values (Product n a b) (v ∷ vs) =
+  case_applied place eliminator case values (Prod n a b) (v ∷ vs) =
       case_applied place eliminator (case_applied_to (mentions place a) eliminator case v values a) (v ∷ values) b vs
   case_applied place eliminator case values t vs = case
 

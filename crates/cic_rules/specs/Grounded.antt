@@ -1,7 +1,7 @@
 -- What an entry rests on: the assumptions and admitted theorems that it reaches, and derivations all the way down to them.
 use Rattle.std.specs.Prelude.{◌≡◌, ℕ, zero, suc, ◌+◌, List, [], ◌∷◌, ◌++◌, take, Bool, true, false, Option, Some, None, IsTrue, if◌then◌else◌, slice_get}
 use Rattle.core_term.specs.declared.sorts.Sort.{Sort}
-use Rattle.core_term.specs.Tree.{Tree, Universe}
+use Rattle.core_term.specs.Tree.{Tree, Sorted}
 use Rattle.cic_rules.specs.declared.decls.InductiveDecl.{InductiveDecl}
 use Rattle.cic_rules.specs.declared.entries.Entry.{Entry}
 use Rattle.cic_rules.specs.declared.entries.EntryKind.{EntryKind}
@@ -63,9 +63,9 @@ family_of _ = None
 -- the entry at a place is grounded in a list of assumptions and admitted theorems; the derivations are in the environment before it
 pub data IsGrounded (env : List Slot) (axs : List ℕ) : ℕ → Type 0 where
   GroundedAssumption : (p : ℕ) (e : Entry) (s : Sort) → entry_at env p ≡ Some e → IsTrue (is_assumption env p) → IsTrue (has axs p) →
-      Derives (take p env) e.used [] e.ty (Universe s) → ((q : ℕ) → IsTrue (has e.used q) → IsGrounded env axs q) → IsGrounded env axs p
+      Derives (take p env) e.used [] e.ty (Sorted s) → ((q : ℕ) → IsTrue (has e.used q) → IsGrounded env axs q) → IsGrounded env axs p
   GroundedDefinition : (p : ℕ) (e : Entry) (body : Tree) (opaque : Bool) (s : Sort) → entry_at env p ≡ Some e → e.kind ≡ Defined body opaque →
-      Derives (take p env) e.used [] e.ty (Universe s) → Derives (take p env) e.used [] body e.ty →
+      Derives (take p env) e.used [] e.ty (Sorted s) → Derives (take p env) e.used [] body e.ty →
       ((q : ℕ) → IsTrue (has e.used q) → IsGrounded env axs q) → IsGrounded env axs p
   GroundedInductive : (p : ℕ) (e : Entry) (d : InductiveDecl) (s : Sort) (rows : List (List Sort)) → entry_at env p ≡ Some e →
       decl_at env p ≡ Some d → e ≡ type_entry d e.used → KeepsRules (take p env) d e.used s rows →

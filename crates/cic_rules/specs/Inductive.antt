@@ -4,7 +4,7 @@ use Rattle.base_core.specs.declared.refusals.Limit.TheVariants.{DepthLimit}
 use Rattle.core_term.specs.declared.sorts.Sort.{Sort}
 use Rattle.core_term.specs.declared.sorts.Sort.TheVariants.{PropSort, SetSort, TypeSort}
 use Rattle.core_term.specs.Sorts.{sort_below, sort_of_product}
-use Rattle.core_term.specs.Tree.{Tree, Universe, Const, Product}
+use Rattle.core_term.specs.Tree.{Tree, Sorted, Constant, Prod}
 use Rattle.cic_rules.specs.declared.context.Hyp.{Hyp}
 use Rattle.cic_rules.specs.declared.decls.InductiveDecl.{InductiveDecl}
 use Rattle.cic_rules.specs.declared.decls.Ctor.{Ctor}
@@ -13,10 +13,10 @@ use Rattle.cic_rules.specs.declared.entries.EntryKind.TheVariants.{Assumed}
 use Rattle.cic_rules.specs.declared.env.Slot.{Slot}
 use Rattle.cic_rules.specs.Contexts.{plain_hyp}
 use Rattle.cic_rules.specs.Environments.{entered, is_taken, without}
-use Rattle.cic_rules.specs.Rows.{head_of, arguments_of, end_of, mentions, any_mentions, same_trees, all_deeper, own_variables}
+use Rattle.cic_rules.specs.Rows.{head_of, arguments_of, end_of_products, mentions, any_mentions, same_trees, shift_all, variables_of}
 use Rattle.cic_rules.specs.Families.{count_params, count_indices}
 use Rattle.cic_rules.specs.Convert.{within}
-use Rattle.cic_rules.specs.Infer.{union, Sorted, sort_of_at}
+use Rattle.cic_rules.specs.Infer.{union, InferredSort, sort_of_at}
 use Rattle.cic_rules.specs.Eliminators.{has_name, eliminator_name, type_of_decl}
 use Rattle.cic_rules.specs.Runs.{Ran, ended, done, out, refused, charge, then_do, made}
 
@@ -45,18 +45,18 @@ pub record RowSorted : Type 0 where
   pub domains : List Sort
   pub used : List ℕ
 
-abbrev pub no_domains : Sorted → ℕ → Ran RowSorted
+abbrev pub no_domains : InferredSort → ℕ → Ran RowSorted
 no_domains s left = done (record { sort = s.sort; domains = []; used = s.used }) left
 
-abbrev pub with_domain : Sorted → RowSorted → ℕ → Ran RowSorted
+abbrev pub with_domain : InferredSort → RowSorted → ℕ → Ran RowSorted
 with_domain s r left =
     done (record { sort = sort_of_product s.sort r.sort; domains = s.sort ∷ r.domains; used = union s.used r.used }) left
 
 module _ (row : List Hyp → Tree → ℕ → Ran RowSorted) where
-  abbrev pub codomain_row : Tree → Sorted → List Hyp → ℕ → Ran RowSorted
+  abbrev pub codomain_row : Tree → InferredSort → List Hyp → ℕ → Ran RowSorted
   codomain_row b s inner left = then_do (row inner b left) (with_domain s)
 
-  abbrev pub domain_row : List Hyp → List ℕ → Tree → Tree → Sorted → ℕ → Ran RowSorted
+  abbrev pub domain_row : List Hyp → List ℕ → Tree → Tree → InferredSort → ℕ → Ran RowSorted
   domain_row ctx n a b s left = within ctx (plain_hyp n a) (codomain_row b s) left
 
 -- the context of the parameters, and the names used so far
@@ -78,7 +78,7 @@ module _ (env : List Slot) where
   -- the sort of a type as `sort_of` finds it, for the same units, with the sorts that it finds of the leading domains
   unfoldable pub row_at : ℕ → List Hyp → Tree → ℕ → Ran RowSorted
   row_at zero ctx t left = out DepthLimit left
-  row_at (suc calls) ctx (Product n a b) left =
+  row_at (suc calls) ctx (Prod n a b) left =
       charge 1 (λ k. then_do (sort_of_at env calls ctx a k) (domain_row (row_at calls) ctx n a b)) left
   row_at (suc calls) ctx t left = then_do (sort_of_at env (suc calls) ctx t left) no_domains
 
@@ -86,7 +86,7 @@ module _ (env : List Slot) where
     abbrev pub open_rest : (List Hyp → List ℕ → ℕ → Ran Opened) → List ℕ → List Hyp → ℕ → Ran Opened
     open_rest rest used inner left = rest inner used left
 
-    abbrev pub open_param : List Hyp → Hyp → List ℕ → (List Hyp → List ℕ → ℕ → Ran Opened) → Sorted → ℕ → Ran Opened
+    abbrev pub open_param : List Hyp → Hyp → List ℕ → (List Hyp → List ℕ → ℕ → Ran Opened) → InferredSort → ℕ → Ran Opened
     open_param ctx h used rest s left = within ctx (plain_hyp h.name h.ty) (open_rest rest (union used s.used)) left
 
     -- the parameters, each of a type that has a sort in the context of those before it
@@ -98,7 +98,7 @@ module _ (env : List Slot) where
 -- the form of a constructor's type, for an inductive type at a place; ps are the parameters as the term sees them
 module _ (place : ℕ) where
   abbrev pub is_family : Tree → Bool
-  is_family (Const c) = c == place
+  is_family (Constant c) = c == place
   is_family _ = false
 
   abbrev pub is_absent : List Tree → Bool
@@ -111,17 +111,17 @@ module _ (place : ℕ) where
 
   -- a row of products that ends in the type so applied, with as many indices as there should be
   abbrev pub is_constructors : List Tree → ℕ → Tree → Bool
-  is_constructors ps count (Product n a b) = is_constructors (all_deeper ps) count b
+  is_constructors ps count (Prod n a b) = is_constructors (shift_all ps) count b
   is_constructors ps count t = is_applied ps t && (length (arguments_of t) == length ps + count)
 
   -- a row of products whose domains don't have the type, and that ends in it so applied
   abbrev pub is_recursive : List Tree → Tree → Bool
-  is_recursive ps (Product n a b) = is_absent (a ∷ []) && is_recursive (all_deeper ps) b
+  is_recursive ps (Prod n a b) = is_absent (a ∷ []) && is_recursive (shift_all ps) b
   is_recursive ps t = is_applied ps t
 
   -- each argument of a constructor does not have the type, or has this form
   abbrev pub is_positive : List Tree → Tree → Bool
-  is_positive ps (Product n a b) = (if mentions place a then is_recursive ps a else true) && is_positive (all_deeper ps) b
+  is_positive ps (Prod n a b) = (if mentions place a then is_recursive ps a else true) && is_positive (shift_all ps) b
   is_positive ps t = true
 
   abbrev pub are_positive : List Tree → List Ctor → Bool
@@ -167,7 +167,7 @@ with_row r rest left = done (record { rows = r.domains ∷ rest.rows; used = uni
 module _ (d : InductiveDecl) where
   -- the parameters as the constructors see them
   abbrev pub params_of : List Tree
-  params_of = own_variables (count_params d)
+  params_of = variables_of (count_params d)
 
   -- a constructor whose type has a sort, and the others
   abbrev pub row_found : ℕ → Ctor → (ℕ → Ran Rows) → RowSorted → ℕ → Ran Rows
@@ -197,7 +197,7 @@ module _ (d : InductiveDecl) where
     abbrev pub type_assumed : List Hyp → List ℕ → ℕ → Ran Checked
     type_assumed ctx used left = then_do (ended (entered env (assumed_type d)) left) (constructors_judged ctx used)
 
-    abbrev pub arity_sorted : Opened → Sorted → ℕ → Ran Checked
+    abbrev pub arity_sorted : Opened → InferredSort → ℕ → Ran Checked
     arity_sorted opened r left = made (type_of_decl d) (type_assumed opened.ctx (union opened.used r.used)) left
 
     abbrev pub params_opened : Opened → ℕ → Ran Checked
@@ -205,11 +205,11 @@ module _ (d : InductiveDecl) where
 
 -- the arity must be a row of products, as it stands, that ends in a sort
 abbrev pub by_arity : List Slot → ℕ → InductiveDecl → Tree → ℕ → Ran Checked
-by_arity env calls d (Universe s) left = then_do (open_params env calls d.params [] [] left) (params_opened d env calls s)
+by_arity env calls d (Sorted s) left = then_do (open_params env calls d.params [] [] left) (params_opened d env calls s)
 by_arity env calls d _ left = refused 30 left
 
 -- an inductive declaration, tested in the order of its refusals
 abbrev pub check_inductive_at : List Slot → ℕ → InductiveDecl → ℕ → Ran Checked
 check_inductive_at env calls d left =
     if has_twice (names_of d) then refused 34 left
-    else (if any_taken env (names_of d) then refused 25 left else by_arity env calls d (end_of d.arity) left)
+    else (if any_taken env (names_of d) then refused 25 left else by_arity env calls d (end_of_products d.arity) left)

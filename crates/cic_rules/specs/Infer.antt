@@ -4,8 +4,8 @@ use Rattle.base_core.specs.declared.refusals.Limit.TheVariants.{DepthLimit}
 use Rattle.core_term.specs.declared.sorts.Sort.{Sort}
 use Rattle.core_term.specs.declared.sorts.Sort.TheVariants.{PropSort, SetSort, TypeSort}
 use Rattle.core_term.specs.Sorts.{sort_of_product}
-use Rattle.core_term.specs.Tree.{Tree, Variable, Universe, Const, Product, Lambda, Let, Apply, same_tree}
-use Rattle.core_term.specs.Places.{substituted}
+use Rattle.core_term.specs.Tree.{Tree, Var, Sorted, Constant, Prod, Lam, LetIn, App, same_tree}
+use Rattle.core_term.specs.Places.{subst_of}
 use Rattle.cic_rules.specs.declared.context.Hyp.{Hyp}
 use Rattle.cic_rules.specs.declared.env.Slot.{Slot}
 use Rattle.cic_rules.specs.declared.judge.Mode.{Mode}
@@ -37,7 +37,7 @@ type_of_sort SetSort = Some (TypeSort 1)
 type_of_sort (TypeSort i) = if nat_lt i 1000 then Some (TypeSort (i + 1)) else None
 
 -- the sort of a type, and the names used to find it
-pub record Sorted : Type 0 where
+pub record InferredSort : Type 0 where
   pub sort : Sort
   pub used : List ℕ
 
@@ -45,7 +45,7 @@ pub record Sorted : Type 0 where
 abbrev pub inferred : Tree → List ℕ → Inferred
 inferred ty used = record { ty = ty; used = used }
 
-abbrev pub sorted : Sort → List ℕ → Sorted
+abbrev pub sorted : Sort → List ℕ → InferredSort
 sorted sort used = record { sort = sort; used = used }
 
 -- a type that is known, or a refusal: the term is unbound
@@ -56,33 +56,33 @@ known (Some ty) used left = done (inferred ty used) left
 -- a sort that has a type, or a refusal
 abbrev pub sort_typed : Option Sort → ℕ → Ran Inferred
 sort_typed None left = refused 24 left
-sort_typed (Some s) left = done (inferred (Universe s) []) left
+sort_typed (Some s) left = done (inferred (Sorted s) []) left
 
 -- a sort that was found by reduction must have a type
-abbrev pub reduced_sort : Option Sort → Sort → List ℕ → ℕ → Ran Sorted
+abbrev pub reduced_sort : Option Sort → Sort → List ℕ → ℕ → Ran InferredSort
 reduced_sort None s used left = refused 24 left
 reduced_sort (Some _) s used left = done (sorted s used) left
 
 -- what a type was reduced to must be a sort
-abbrev pub must_be_sort : List ℕ → Tree → ℕ → Ran Sorted
-must_be_sort used (Universe s) left = reduced_sort (type_of_sort s) s used left
+abbrev pub must_be_sort : List ℕ → Tree → ℕ → Ran InferredSort
+must_be_sort used (Sorted s) left = reduced_sort (type_of_sort s) s used left
 must_be_sort used _ left = refused 23 left
 
 -- over the judgements that inference calls: weak head reduction, conversion and inference
 module _ (whnf : List Hyp → Tree → ℕ → Ran Tree) (conv : List Hyp → Mode → Tree → Tree → ℕ → Ran Bool) (infer : List Hyp → Tree → ℕ → Ran Inferred) where
   -- a type that is a sort is the answer as it stands
-  abbrev pub as_sort : List Hyp → Tree → List ℕ → ℕ → Ran Sorted
-  as_sort ctx (Universe s) used left = done (sorted s used) left
+  abbrev pub as_sort : List Hyp → Tree → List ℕ → ℕ → Ran InferredSort
+  as_sort ctx (Sorted s) used left = done (sorted s used) left
   as_sort ctx ty used left = then_do (whnf ctx ty left) (must_be_sort used)
 
-  abbrev pub sort_of_type : List Hyp → Inferred → ℕ → Ran Sorted
+  abbrev pub sort_of_type : List Hyp → Inferred → ℕ → Ran InferredSort
   sort_of_type ctx i left = as_sort ctx i.ty i.used left
 
   -- the sort of a type
-  abbrev pub sort_of : List Hyp → Tree → ℕ → Ran Sorted
+  abbrev pub sort_of : List Hyp → Tree → ℕ → Ran InferredSort
   sort_of ctx a left = then_do (infer ctx a left) (sort_of_type ctx)
 
-  abbrev pub used_with : List ℕ → Sorted → ℕ → Ran (List ℕ)
+  abbrev pub used_with : List ℕ → InferredSort → ℕ → Ran (List ℕ)
   used_with used s left = done (union used s.used) left
 
   -- the wanted type is accepted where it has a sort
@@ -103,48 +103,48 @@ module _ (whnf : List Hyp → Tree → ℕ → Ran Tree) (conv : List Hyp → Mo
   check ctx t wanted left = then_do (infer ctx t left) (check_type ctx wanted)
 
   -- a product, over the sort of its domain
-  abbrev pub product_sorted : Sorted → Sorted → ℕ → Ran Inferred
-  product_sorted s r left = done (inferred (Universe (sort_of_product s.sort r.sort)) (union s.used r.used)) left
+  abbrev pub product_sorted : InferredSort → InferredSort → ℕ → Ran Inferred
+  product_sorted s r left = done (inferred (Sorted (sort_of_product s.sort r.sort)) (union s.used r.used)) left
 
-  abbrev pub codomain_sort : Tree → Sorted → List Hyp → ℕ → Ran Inferred
+  abbrev pub codomain_sort : Tree → InferredSort → List Hyp → ℕ → Ran Inferred
   codomain_sort b s inner left = then_do (sort_of inner b left) (product_sorted s)
 
-  abbrev pub product_type : List Hyp → List ℕ → Tree → Tree → Sorted → ℕ → Ran Inferred
+  abbrev pub product_type : List Hyp → List ℕ → Tree → Tree → InferredSort → ℕ → Ran Inferred
   product_type ctx n a b s left = within ctx (plain_hyp n a) (codomain_sort b s) left
 
   -- an abstraction, over the sort of its domain and the type of its body, which must have a sort
-  abbrev pub abstraction_made : List ℕ → Tree → Sorted → Inferred → Sorted → ℕ → Ran Inferred
+  abbrev pub abstraction_made : List ℕ → Tree → InferredSort → Inferred → InferredSort → ℕ → Ran Inferred
   abstraction_made n a s i r left =
-      made (Product n a i.ty) (done (inferred (Product n a i.ty) (union s.used (union i.used r.used)))) left
+      made (Prod n a i.ty) (done (inferred (Prod n a i.ty) (union s.used (union i.used r.used)))) left
 
-  abbrev pub body_type_sort : List ℕ → Tree → Sorted → List Hyp → Inferred → ℕ → Ran Inferred
+  abbrev pub body_type_sort : List ℕ → Tree → InferredSort → List Hyp → Inferred → ℕ → Ran Inferred
   body_type_sort n a s inner i left = then_do (sort_of inner i.ty left) (abstraction_made n a s i)
 
-  abbrev pub body_type : List ℕ → Tree → Tree → Sorted → List Hyp → ℕ → Ran Inferred
+  abbrev pub body_type : List ℕ → Tree → Tree → InferredSort → List Hyp → ℕ → Ran Inferred
   body_type n a b s inner left = then_do (infer inner b left) (body_type_sort n a s inner)
 
-  abbrev pub abstraction_type : List Hyp → List ℕ → Tree → Tree → Sorted → ℕ → Ran Inferred
+  abbrev pub abstraction_type : List Hyp → List ℕ → Tree → Tree → InferredSort → ℕ → Ran Inferred
   abstraction_type ctx n a b s left = within ctx (plain_hyp n a) (body_type n a b s) left
 
   -- an application: the argument is checked against the domain, and put into the codomain
   abbrev pub argument_put : Tree → Tree → List ℕ → List ℕ → ℕ → Ran Inferred
   argument_put b v used more left =
-      made (substituted b v 0) (done (inferred (substituted b v 0) (union used more))) left
+      made (subst_of b v 0) (done (inferred (subst_of b v 0) (union used more))) left
 
   abbrev pub applied_to : List Hyp → Tree → Tree → Tree → List ℕ → ℕ → Ran Inferred
   applied_to ctx v a b used left = then_do (check ctx v a left) (argument_put b v used)
 
   -- a product that was found by reduction must have a sort
-  abbrev pub reduced_product : List Hyp → Tree → Tree → Tree → List ℕ → Sorted → ℕ → Ran Inferred
+  abbrev pub reduced_product : List Hyp → Tree → Tree → Tree → List ℕ → InferredSort → ℕ → Ran Inferred
   reduced_product ctx v a b used s left = applied_to ctx v a b (union used s.used) left
 
   abbrev pub must_be_product : List Hyp → Tree → List ℕ → Tree → ℕ → Ran Inferred
-  must_be_product ctx v used (Product n a b) left =
-      then_do (sort_of ctx (Product n a b) left) (reduced_product ctx v a b used)
+  must_be_product ctx v used (Prod n a b) left =
+      then_do (sort_of ctx (Prod n a b) left) (reduced_product ctx v a b used)
   must_be_product ctx v used _ left = refused 21 left
 
   abbrev pub function_type : List Hyp → Tree → Tree → List ℕ → ℕ → Ran Inferred
-  function_type ctx v (Product n a b) used left = applied_to ctx v a b used left
+  function_type ctx v (Prod n a b) used left = applied_to ctx v a b used left
   function_type ctx v ty used left = then_do (whnf ctx ty left) (must_be_product ctx v used)
 
   abbrev pub application_type : List Hyp → Tree → Inferred → ℕ → Ran Inferred
@@ -153,7 +153,7 @@ module _ (whnf : List Hyp → Tree → ℕ → Ran Tree) (conv : List Hyp → Mo
   -- a let: the sort of its type, its value checked, its body's type with the value put in
   abbrev pub value_put : Tree → List ℕ → Inferred → ℕ → Ran Inferred
   value_put t used i left =
-      made (substituted i.ty t 0) (done (inferred (substituted i.ty t 0) (union used i.used))) left
+      made (subst_of i.ty t 0) (done (inferred (subst_of i.ty t 0) (union used i.used))) left
 
   abbrev pub let_body : Tree → Tree → List ℕ → List Hyp → ℕ → Ran Inferred
   let_body t b used inner left = then_do (infer inner b left) (value_put t used)
@@ -161,18 +161,18 @@ module _ (whnf : List Hyp → Tree → ℕ → Ran Tree) (conv : List Hyp → Mo
   abbrev pub let_checked : List Hyp → List ℕ → Tree → Tree → Tree → List ℕ → List ℕ → ℕ → Ran Inferred
   let_checked ctx n a t b used more left = within ctx (defined_hyp n a t) (let_body t b (union used more)) left
 
-  abbrev pub let_type : List Hyp → List ℕ → Tree → Tree → Tree → Sorted → ℕ → Ran Inferred
+  abbrev pub let_type : List Hyp → List ℕ → Tree → Tree → Tree → InferredSort → ℕ → Ran Inferred
   let_type ctx n a t b s left = then_do (check ctx t a left) (let_checked ctx n a t b s.used)
 
   -- the table of inference, by the top of the term
   abbrev pub type_of : List Slot → List Hyp → Tree → ℕ → Ran Inferred
-  type_of env ctx (Variable i) left = known (type_of_variable ctx i) [] left
-  type_of env ctx (Universe s) left = sort_typed (type_of_sort s) left
-  type_of env ctx (Const c) left = known (type_of_global env c) (c ∷ []) left
-  type_of env ctx (Product n a b) left = then_do (sort_of ctx a left) (product_type ctx n a b)
-  type_of env ctx (Lambda n a b) left = then_do (sort_of ctx a left) (abstraction_type ctx n a b)
-  type_of env ctx (Let n a t b) left = then_do (sort_of ctx a left) (let_type ctx n a t b)
-  type_of env ctx (Apply f v) left = then_do (infer ctx f left) (application_type ctx v)
+  type_of env ctx (Var i) left = known (type_of_variable ctx i) [] left
+  type_of env ctx (Sorted s) left = sort_typed (type_of_sort s) left
+  type_of env ctx (Constant c) left = known (type_of_global env c) (c ∷ []) left
+  type_of env ctx (Prod n a b) left = then_do (sort_of ctx a left) (product_type ctx n a b)
+  type_of env ctx (Lam n a b) left = then_do (sort_of ctx a left) (abstraction_type ctx n a b)
+  type_of env ctx (LetIn n a t b) left = then_do (sort_of ctx a left) (let_type ctx n a t b)
+  type_of env ctx (App f v) left = then_do (infer ctx f left) (application_type ctx v)
 
 module _ (env : List Slot) where
   -- inference takes a unit at each call; so many more judgements may stand in one another
@@ -182,7 +182,7 @@ module _ (env : List Slot) where
       charge 1 (type_of (whnf_at env true calls) (conv_at env calls) (infer_at calls) env ctx t) left
 
   -- the sort of a type, and a term checked against a type, by judgements of which so many may stand in one another
-  abbrev pub sort_of_at : ℕ → List Hyp → Tree → ℕ → Ran Sorted
+  abbrev pub sort_of_at : ℕ → List Hyp → Tree → ℕ → Ran InferredSort
   sort_of_at calls ctx a left = sort_of (whnf_at env true calls) (conv_at env calls) (infer_at calls) ctx a left
 
   abbrev pub check_at : ℕ → List Hyp → Tree → Tree → ℕ → Ran (List ℕ)

@@ -11,7 +11,7 @@ use Rattle.cic_rules.specs.Environments.{has, AreBefore, IsAscending, IsEnvironm
 use Rattle.cic_rules.specs.Derive.{IsFormed, Derives}
 use Rattle.cic_rules.specs.Reduce.{whnf_at}
 use Rattle.cic_rules.specs.Convert.{conv_at}
-use Rattle.cic_rules.specs.Infer.{Sorted, sorted, infer_at, sort_of_at}
+use Rattle.cic_rules.specs.Infer.{InferredSort, sorted, infer_at, sort_of_at}
 use Rattle.cic_rules.specs.Inductive.{RowSorted, row_at}
 use Rattle.cic_rules.specs.Declare.{declare_at}
 use Rattle.cic_rules.specs.Runs.{Ran, done, then_do}
@@ -45,7 +45,7 @@ AxiomsAreReached = (env : List Slot) → UsesBefore env → (place q : ℕ) →
     IsTrue (has (axioms env place) q) ↔ ((IsTrue (is_assumption env q)) × Reaches env place q)
 
 -- the sort of a row of products, without the sorts of its domains
-abbrev pub domains_forgotten : RowSorted → ℕ → Ran Sorted
+abbrev pub domains_forgotten : RowSorted → ℕ → Ran InferredSort
 domains_forgotten r left = done (sorted r.sort r.used) left
 
 -- a row of products is sorted as each type is: by the same answer, with the same names and for the same units

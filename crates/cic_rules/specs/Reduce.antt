@@ -1,8 +1,8 @@
 -- Weak head reduction, by substitution on plain trees, with its units.
 use Rattle.std.specs.Prelude.{ℕ, zero, suc, ◌+◌, List, ◌∷◌, Bool, Option, Some, None, if◌then◌else◌}
 use Rattle.base_core.specs.declared.refusals.Limit.TheVariants.{DepthLimit}
-use Rattle.core_term.specs.Tree.{Tree, Variable, Const, Lambda, Let, size_of}
-use Rattle.core_term.specs.Places.{substituted}
+use Rattle.core_term.specs.Tree.{Tree, Var, Constant, Lam, LetIn, size_of}
+use Rattle.core_term.specs.Places.{subst_of}
 use Rattle.cic_rules.specs.declared.context.Hyp.{Hyp}
 use Rattle.cic_rules.specs.declared.env.Slot.{Slot}
 use Rattle.cic_rules.specs.Contexts.{value_of_variable}
@@ -31,11 +31,11 @@ global_step None None args = Stuck
 module _ (env : List Slot) (delta : Bool) where
   -- the step of a head with its arguments: beta, zeta, the context's definitions, delta and iota
   abbrev pub step_of : List Hyp → Tree → List Tree → Step
-  step_of ctx (Lambda n a b) (v ∷ args) = Contracts (1 + size_of b) (apply_all (substituted b v 0) args)
-  step_of ctx (Let n a t b) args = Contracts 1 (apply_all (substituted b t 0) args)
-  step_of ctx (Variable i) args = unfolded (value_of_variable ctx i) args
-  step_of ctx (Const c) args =
-      global_step (if delta then body_of_global env c else None) (awaited env (Const c) args) args
+  step_of ctx (Lam n a b) (v ∷ args) = Contracts (1 + size_of b) (apply_all (subst_of b v 0) args)
+  step_of ctx (LetIn n a t b) args = Contracts 1 (apply_all (subst_of b t 0) args)
+  step_of ctx (Var i) args = unfolded (value_of_variable ctx i) args
+  step_of ctx (Constant c) args =
+      global_step (if delta then body_of_global env c else None) (awaited env (Constant c) args) args
   step_of ctx _ args = Stuck
 
   -- a contraction that was paid is built, and reduced further where it is not too large

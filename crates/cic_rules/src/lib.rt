@@ -17,8 +17,3 @@ pub use env::GlobalEnv;
 pub use fuel::Fuel;
 pub use judge::{Answer, Declares, Inferred, Judge, Mode};
 pub use laws::{law_of_axioms, law_of_fuel, law_of_names, law_of_rows};
-
-#[cfg(test)]
-mod family_tests;
-#[cfg(test)]
-mod tests;

@@ -1,24 +1,24 @@
 use Rattle.std.specs.Prelude.{◌≡◌}
 use Rattle.core_term.specs.Sorts.{IsSort}
-use Rattle.core_term.specs.Tree.{Tree, Variable, Universe, Const, Product, Lambda, Let, Apply, size_of, depth_of, free_bound, IsTerm}
+use Rattle.core_term.specs.Tree.{Tree, Var, Sorted, Constant, Prod, Lam, LetIn, App, size_of, depth_of, free_bound, IsTerm}
 use Rattle.core_term.specs.declared.terms.Node.{Node}
-use Rattle.core_term.specs.declared.terms.Node.TheVariants.{Var, Sorted, Constant, Prod, Lam, LetIn, App}
+use Rattle.core_term.specs.declared.terms.Node.TheVariants as node
 use Rattle.core_term.specs.declared.terms.Cell.{Cell}
 use Rattle.core_term.specs.declared.measures.Measure.{Measure}
 
 -- the term that a node is the top of
 abbrev pub tree_of : Node → Tree
-tree_of (Var i) = Variable i
-tree_of (Sorted s) = Universe s
-tree_of (Constant c) = Const c
-tree_of (Prod n a b) = Product n.value a b
-tree_of (Lam n a b) = Lambda n.value a b
-tree_of (LetIn n a t b) = Let n.value a t b
-tree_of (App f a) = Apply f a
+tree_of (node.Var i) = Var i
+tree_of (node.Sorted s) = Sorted s
+tree_of (node.Constant c) = Constant c
+tree_of (node.Prod n a b) = Prod n a b
+tree_of (node.Lam n a b) = Lam n a b
+tree_of (node.LetIn n a t b) = LetIn n a t b
+tree_of (node.App f a) = App f a
 
 -- a node that is a sort has a level in its range
 abbrev pub HasSort : Node → Type 0
-HasSort (Sorted s) = IsSort s
+HasSort (node.Sorted s) = IsSort s
 HasSort _ = Unit {0}
 
 -- a term's size, its depth and the bound of its free variables

@@ -3,11 +3,11 @@ use Rattle.std.proofs.Common.{◌∙◌, ap}
 use Rattle.std.specs.Coded.{Coded, code_by, coded×, coded_ℕ, coded_list}
 use Rattle.core_term.specs.declared.sorts.Sort.{Sort}
 use Rattle.core_term.specs.declared.sorts.Sort.TheVariants.{PropSort, SetSort, TypeSort}
-use Rattle.core_term.specs.Tree.{Tree, Variable, Universe, Const, Product, Lambda, Let, Apply}
+use Rattle.core_term.specs.Tree.{Tree, Var, Sorted, Constant, Prod, Lam, LetIn, App}
 
 -- a node without its parts: its kind, its number and its name
-abbrev pub Mark : Type 0
-Mark = ℕ × (ℕ × List ℕ)
+abbrev pub NodeTag : Type 0
+NodeTag = ℕ × (ℕ × List ℕ)
 
 -- a sort as a number
 abbrev pub sort_number : Sort → ℕ
@@ -28,44 +28,44 @@ numbered_sort-sort_number SetSort = refl
 numbered_sort-sort_number (TypeSort i) = refl
 
 -- the nodes of a term, each after its parts, and then the rest
-abbrev pub marks : Tree → List Mark → List Mark
-marks (Variable i) rest = (0, (i, [])) ∷ rest
-marks (Universe s) rest = (1, (sort_number s, [])) ∷ rest
-marks (Const c) rest = (2, (c, [])) ∷ rest
-marks (Product n a b) rest = marks a (marks b ((3, (0, n)) ∷ rest))
-marks (Lambda n a b) rest = marks a (marks b ((4, (0, n)) ∷ rest))
-marks (Let n a t b) rest = marks a (marks t (marks b ((5, (0, n)) ∷ rest)))
-marks (Apply f a) rest = marks f (marks a ((6, (0, [])) ∷ rest))
+abbrev pub tags : Tree → List NodeTag → List NodeTag
+tags (Var i) rest = (0, (i, [])) ∷ rest
+tags (Sorted s) rest = (1, (sort_number s, [])) ∷ rest
+tags (Constant c) rest = (2, (c, [])) ∷ rest
+tags (Prod n a b) rest = tags a (tags b ((3, (0, n)) ∷ rest))
+tags (Lam n a b) rest = tags a (tags b ((4, (0, n)) ∷ rest))
+tags (LetIn n a t b) rest = tags a (tags t (tags b ((5, (0, n)) ∷ rest)))
+tags (App f a) rest = tags f (tags a ((6, (0, [])) ∷ rest))
 
 -- the stack of terms after a node: a leaf goes on it, an inner node takes its parts from it
 abbrev pub built : ℕ → ℕ → List ℕ → List Tree → List Tree
-built zero i n stack = Variable i ∷ stack
-built (suc zero) i n stack = Universe (numbered_sort i) ∷ stack
-built (suc (suc zero)) i n stack = Const i ∷ stack
-built (suc (suc (suc zero))) i n (b ∷ a ∷ stack) = Product n a b ∷ stack
-built (suc (suc (suc (suc zero)))) i n (b ∷ a ∷ stack) = Lambda n a b ∷ stack
-built (suc (suc (suc (suc (suc zero))))) i n (b ∷ t ∷ a ∷ stack) = Let n a t b ∷ stack
-built (suc (suc (suc (suc (suc (suc zero)))))) i n (a ∷ f ∷ stack) = Apply f a ∷ stack
+built zero i n stack = Var i ∷ stack
+built (suc zero) i n stack = Sorted (numbered_sort i) ∷ stack
+built (suc (suc zero)) i n stack = Constant i ∷ stack
+built (suc (suc (suc zero))) i n (b ∷ a ∷ stack) = Prod n a b ∷ stack
+built (suc (suc (suc (suc zero)))) i n (b ∷ a ∷ stack) = Lam n a b ∷ stack
+built (suc (suc (suc (suc (suc zero))))) i n (b ∷ t ∷ a ∷ stack) = LetIn n a t b ∷ stack
+built (suc (suc (suc (suc (suc (suc zero)))))) i n (a ∷ f ∷ stack) = App f a ∷ stack
 built _ i n stack = stack
 
 -- the term that stands on the stack after all nodes
-abbrev pub read : List Mark → List Tree → Tree
-read [] [] = Variable 0
+abbrev pub read : List NodeTag → List Tree → Tree
+read [] [] = Var 0
 read [] (t ∷ _) = t
 read (m ∷ ms) stack = read ms (built m.0 m.1.0 m.1.1 stack)
 
 -- reading the nodes of a term puts it on the stack
-pub read-marks : (t : Tree) (rest : List Mark) (stack : List Tree) → read (marks t rest) stack ≡ read rest (t ∷ stack)
-read-marks (Variable i) rest stack = refl
-read-marks (Universe s) rest stack = ap (λ r. read rest (Universe r ∷ stack)) (numbered_sort-sort_number s)
-read-marks (Const c) rest stack = refl
-read-marks (Product n a b) rest stack = read-marks a _ stack ∙ read-marks b _ (a ∷ stack)
-read-marks (Lambda n a b) rest stack = read-marks a _ stack ∙ read-marks b _ (a ∷ stack)
-read-marks (Let n a t b) rest stack =
-    read-marks a _ stack ∙ read-marks t _ (a ∷ stack) ∙ read-marks b _ (t ∷ a ∷ stack)
-read-marks (Apply f a) rest stack = read-marks f _ stack ∙ read-marks a _ (f ∷ stack)
+pub read-tags : (t : Tree) (rest : List NodeTag) (stack : List Tree) → read (tags t rest) stack ≡ read rest (t ∷ stack)
+read-tags (Var i) rest stack = refl
+read-tags (Sorted s) rest stack = ap (λ r. read rest (Sorted r ∷ stack)) (numbered_sort-sort_number s)
+read-tags (Constant c) rest stack = refl
+read-tags (Prod n a b) rest stack = read-tags a _ stack ∙ read-tags b _ (a ∷ stack)
+read-tags (Lam n a b) rest stack = read-tags a _ stack ∙ read-tags b _ (a ∷ stack)
+read-tags (LetIn n a t b) rest stack =
+    read-tags a _ stack ∙ read-tags t _ (a ∷ stack) ∙ read-tags b _ (t ∷ a ∷ stack)
+read-tags (App f a) rest stack = read-tags f _ stack ∙ read-tags a _ (f ∷ stack)
 
 -- a term is stored as its nodes
 abbrev pub tree_code : Coded Tree
 tree_code =
-    code_by (List Mark) (coded_list (coded× coded_ℕ (coded× coded_ℕ (coded_list coded_ℕ)))) (λ t. marks t []) (λ ms. read ms []) (λ t. read-marks t [] [])
+    code_by (List NodeTag) (coded_list (coded× coded_ℕ (coded× coded_ℕ (coded_list coded_ℕ)))) (λ t. tags t []) (λ ms. read ms []) (λ t. read-tags t [] [])

@@ -19,6 +19,3 @@ pub use measures::Measure;
 pub use sorts::{Sort, product_sort, sort_le};
 pub use stops::TermStop;
 pub use terms::{Node, Term};
-
-#[cfg(test)]
-mod tests;

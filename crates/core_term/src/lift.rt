@@ -1,7 +1,7 @@
 ghost use Rattle.std.specs.Prelude.{◌≡◌};
 ghost use Rattle.core_term.specs.Tree.{IsNumbered, free_bound};
-ghost use Rattle.core_term.specs.Places.{lifted};
-ghost use Rattle.core_term.specs.Answers.{bounded, Gives};
+ghost use Rattle.core_term.specs.Places.{lift_of};
+ghost use Rattle.core_term.specs.Answers.{within_limits, Gives};
 
 use crate::{Node, Term, TermStop};
 use std::alloc::Global;
@@ -10,15 +10,15 @@ impl Term {
     /// The term with room for `by` variables made at `from`. A part with no variable from there on
     /// is shared.
     pub fn lift(&self, alloc: Global, by: u32, from: u32) -> Result<Term, TermStop>
-        requires { IsNumbered (lifted self.now by from) }
-        ensures { Gives result (bounded (lifted self.now by from)) }
+        requires { IsNumbered (lift_of self.now by from) }
+        ensures { Gives result (within_limits (lift_of self.now by from)) }
     {
         self.lift_from(alloc, u64::from(by), u64::from(from))
     }
 
     pub(crate) fn lift_from(&self, alloc: Global, by: u64, from: u64) -> Result<Term, TermStop>
-        requires { IsNumbered (lifted self.now by from) }
-        ensures { Gives result (bounded (lifted self.now by from)) }
+        requires { IsNumbered (lift_of self.now by from) }
+        ensures { Gives result (within_limits (lift_of self.now by from)) }
     {
         if self.free_bound() <= from || by == 0 {
             return Ok(self.share()?);
@@ -32,12 +32,12 @@ impl Term {
                 domain,
                 codomain,
             } => Node::Prod {
-                name: name.clone()?,
+                name: name.share()?,
                 domain: domain.lift_from(alloc, by, from)?,
                 codomain: codomain.lift_from(alloc, by, from + 1)?,
             },
             Node::Lam { name, domain, body } => Node::Lam {
-                name: name.clone()?,
+                name: name.share()?,
                 domain: domain.lift_from(alloc, by, from)?,
                 body: body.lift_from(alloc, by, from + 1)?,
             },
@@ -47,7 +47,7 @@ impl Term {
                 value,
                 body,
             } => Node::LetIn {
-                name: name.clone()?,
+                name: name.share()?,
                 ty: ty.lift_from(alloc, by, from)?,
                 value: value.lift_from(alloc, by, from)?,
                 body: body.lift_from(alloc, by, from + 1)?,

@@ -1,10 +1,10 @@
 ghost use Rattle.std.specs.Prelude.{◌≡◌, ◌≤◌};
 ghost use Rattle.core_term.specs.Tree.{IsNumbered, size_of};
-ghost use Rattle.core_term.specs.Places.{lifted, substituted, occurrences};
-ghost use Rattle.core_term.specs.Answers.{bounded, Gives};
+ghost use Rattle.core_term.specs.Places.{lift_of, subst_of, occurrences};
+ghost use Rattle.core_term.specs.Answers.{within_limits, Gives};
 
-use crate::terms::SIZE_LIMIT;
 use crate::{Node, Term, TermStop};
+use base_core::TERM_SIZE_LIMIT;
 use std::alloc::Global;
 
 impl Term {
@@ -12,11 +12,11 @@ impl Term {
     /// come down. A part with no variable from there on is shared. The size of the answer is
     /// counted before anything is built, so that no memory goes into a term that is refused.
     pub fn subst(&self, alloc: Global, value: &Term, at: u32) -> Result<Term, TermStop>
-        requires { IsNumbered (substituted self.now value.now at) }
-        ensures { Gives result (bounded (substituted self.now value.now at)) }
+        requires { IsNumbered (subst_of self.now value.now at) }
+        ensures { Gives result (within_limits (subst_of self.now value.now at)) }
     {
         let at = u64::from(at);
-        if self.size_with(value, at) > u64::from(SIZE_LIMIT) {
+        if self.size_with(value, at) > u64::from(TERM_SIZE_LIMIT) {
             return Err(TermStop::TooLarge);
         }
         self.subst_under(alloc, value, at, 0)
@@ -24,7 +24,7 @@ impl Term {
 
     /// How many nodes the term has once the value is put in.
     fn size_with(&self, value: &Term, at: u64) -> u64
-        ensures { result ≡ size_of (substituted self.now value.now at) }
+        ensures { result ≡ size_of (subst_of self.now value.now at) }
     {
         let places = u64::from(self.occurrences(at));
         u64::from(self.size()) + places * u64::from(value.size()) - places
@@ -67,9 +67,9 @@ impl Term {
         at: u64,
         binders: u64,
     ) -> Result<Term, TermStop>
-        requires numbered { IsNumbered (substituted self.now (lifted value.now binders 0) at) }
+        requires numbered { IsNumbered (subst_of self.now (lift_of value.now binders 0) at) }
         requires within { binders ≤ at }
-        ensures { Gives result (bounded (substituted self.now (lifted value.now binders 0) at)) }
+        ensures { Gives result (within_limits (subst_of self.now (lift_of value.now binders 0) at)) }
     {
         if self.free_bound() <= at {
             return Ok(self.share()?);
@@ -84,12 +84,12 @@ impl Term {
                 domain,
                 codomain,
             } => Node::Prod {
-                name: name.clone()?,
+                name: name.share()?,
                 domain: domain.subst_under(alloc, value, at, binders)?,
                 codomain: codomain.subst_under(alloc, value, at + 1, binders + 1)?,
             },
             Node::Lam { name, domain, body } => Node::Lam {
-                name: name.clone()?,
+                name: name.share()?,
                 domain: domain.subst_under(alloc, value, at, binders)?,
                 body: body.subst_under(alloc, value, at + 1, binders + 1)?,
             },
@@ -99,7 +99,7 @@ impl Term {
                 value: given,
                 body,
             } => Node::LetIn {
-                name: name.clone()?,
+                name: name.share()?,
                 ty: ty.subst_under(alloc, value, at, binders)?,
                 value: given.subst_under(alloc, value, at, binders)?,
                 body: body.subst_under(alloc, value, at + 1, binders + 1)?,

@@ -1,18 +1,14 @@
 ghost use Rattle.std.specs.Prelude.{◌≡◌, ◌≤◌, ◌^◌, IfOk};
 ghost use Rattle.core_term.specs.Sorts.{IsSort};
-ghost use Rattle.core_term.specs.Tree.{Variable, Universe, Const, Product, Lambda, Let, Apply, size_of, depth_of, free_bound, IsTerm, IsNumbered, IsLevelled};
+ghost use Rattle.core_term.specs.Tree.{Var, Sorted, Constant, Prod, Lam, LetIn, App, size_of, depth_of, free_bound, IsTerm, IsNumbered, IsLevelled};
 ghost use Rattle.core_term.specs.Nodes.{tree_of, HasSort, Measures};
-ghost use Rattle.core_term.specs.Answers.{bounded, Gives};
+ghost use Rattle.core_term.specs.Answers.{within_limits, Gives};
 
 use crate::{Measure, Sort, TermStop};
-use base_core::{NoMem, Text};
+use base_core::{NoMem, TERM_DEPTH_LIMIT, TERM_SIZE_LIMIT, Text};
 use std::alloc::Global;
 use std::marker::Model;
 use std::rc::Rc;
-
-pub(crate) const SIZE_LIMIT: u32 = 1048576;
-
-const DEPTH_LIMIT: u32 = 1000;
 
 /// A term with de Bruijn indices, which contracts see as a tree. Its subterms are shared.
 #[derive(Drop)]
@@ -37,17 +33,17 @@ pub enum Node {
     /// A global, by its place in the environment.
     Constant(u32),
     Prod {
-        name: Rc<Text>,
+        name: Text,
         domain: Term,
         codomain: Term,
     },
     Lam {
-        name: Rc<Text>,
+        name: Text,
         domain: Term,
         body: Term,
     },
     LetIn {
-        name: Rc<Text>,
+        name: Text,
         ty: Term,
         value: Term,
         body: Term,
@@ -79,14 +75,13 @@ impl Model for Term {
 }
 
 impl Term {
-    /// The term of this node, of which it takes the parts. This is the way to make a term whose
-    /// name is shared with another.
+    /// The term of this node, of which it takes the parts.
     pub fn of_node(alloc: Global, node: Node) -> Result<Term, TermStop>
         requires { HasSort node }
-        ensures { Gives result (bounded (tree_of node)) }
+        ensures { Gives result (within_limits (tree_of node)) }
     {
         let measure = node.measure();
-        if measure.size > SIZE_LIMIT || measure.depth > DEPTH_LIMIT {
+        if measure.size > TERM_SIZE_LIMIT || measure.depth > TERM_DEPTH_LIMIT {
             return Err(TermStop::TooLarge);
         }
         let inner = Rc::new(alloc, Cell { measure, node })?;
@@ -94,7 +89,7 @@ impl Term {
     }
 
     pub fn var(alloc: Global, i: u32) -> Result<Term, TermStop>
-        ensures { Gives result (bounded (Variable i)) }
+        ensures { Gives result (within_limits (Var i)) }
     {
         Term::of_node(alloc, Node::Var(i))
     }
@@ -102,22 +97,21 @@ impl Term {
     /// A level is from 1 to 1000.
     pub fn sort(alloc: Global, s: Sort) -> Result<Term, TermStop>
         requires { IsSort s }
-        ensures { Gives result (bounded (Universe s)) }
+        ensures { Gives result (within_limits (Sorted s)) }
     {
         Term::of_node(alloc, Node::Sorted(s))
     }
 
     pub fn constant(alloc: Global, c: u32) -> Result<Term, TermStop>
-        ensures { Gives result (bounded (Const c)) }
+        ensures { Gives result (within_limits (Constant c)) }
     {
         Term::of_node(alloc, Node::Constant(c))
     }
 
     /// The product over `a`, whose codomain `b` has one more variable.
     pub fn prod(alloc: Global, name: Text, a: Term, b: Term) -> Result<Term, TermStop>
-        ensures { Gives result (bounded (Product name a b)) }
+        ensures { Gives result (within_limits (Prod name a b)) }
     {
-        let name = Rc::new(alloc, name)?;
         Term::of_node(
             alloc,
             Node::Prod {
@@ -130,9 +124,8 @@ impl Term {
 
     /// The function over `a`, whose body `b` has one more variable.
     pub fn lam(alloc: Global, name: Text, a: Term, b: Term) -> Result<Term, TermStop>
-        ensures { Gives result (bounded (Lambda name a b)) }
+        ensures { Gives result (within_limits (Lam name a b)) }
     {
-        let name = Rc::new(alloc, name)?;
         Term::of_node(
             alloc,
             Node::Lam {
@@ -145,9 +138,8 @@ impl Term {
 
     /// A definition of type `a` and value `t` for the body `b`, which has one more variable.
     pub fn let_in(alloc: Global, name: Text, a: Term, t: Term, b: Term) -> Result<Term, TermStop>
-        ensures { Gives result (bounded (Let name a t b)) }
+        ensures { Gives result (within_limits (LetIn name a t b)) }
     {
-        let name = Rc::new(alloc, name)?;
         Term::of_node(
             alloc,
             Node::LetIn {
@@ -161,7 +153,7 @@ impl Term {
 
     /// The function `f` applied to `a`.
     pub fn app(alloc: Global, f: Term, a: Term) -> Result<Term, TermStop>
-        ensures { Gives result (bounded (Apply f a)) }
+        ensures { Gives result (within_limits (App f a)) }
     {
         Term::of_node(
             alloc,

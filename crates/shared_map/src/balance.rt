@@ -1,3 +1,4 @@
+//! Putting a node over two sides so that they stay balanced.
 ghost use Rattle.std.specs.Prelude.{◌≡◌, ◌+◌, ◌^◌, ◌<◌, ◌∷◌, ◌++◌, length, IfOk};
 ghost use Rattle.shared_map.specs.Balance.{AreBalanced, AreNearlyBalanced, LeansLeft};
 

@@ -7,6 +7,3 @@ mod map;
 
 pub use list::SharedList;
 pub use map::SharedMap;
-
-#[cfg(test)]
-mod tests;

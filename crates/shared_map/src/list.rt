@@ -1,3 +1,4 @@
+//! Lists that share their nodes.
 ghost use Rattle.std.specs.Prelude.{◌≡◌, ◌+◌, ◌*◌, ◌^◌, ◌<◌, ◌≤◌, [], ◌∷◌, ◌++◌, length, IfOk, slice_get, slice_set, insert};
 ghost use Rattle.std.specs.Option.{option_copied};
 
@@ -60,12 +61,14 @@ impl<T: Drop> Model for SharedList<T> {
 pub(crate) const LEN_LIMIT: usize = 1 << 60;
 
 impl<T: Drop> SharedList<T> {
+    /// No items. It takes no memory.
     pub fn empty() -> SharedList<T>
         ensures { result ≡ [] }
     {
         SharedList { node: Node::Leaf }
     }
 
+    /// How many items there are. It takes one step.
     pub fn len(&self) -> usize
         ensures count { result ≡ length self.now }
         ensures room { result ≤ 2 ^ 60 }

@@ -1,3 +1,4 @@
+//! Maps that share their nodes.
 ghost use Rattle.std.specs.Prelude.{◌≡◌, ◌+◌, ◌*◌, ◌^◌, ◌<◌, ◌≤◌, [], length, IfOk};
 ghost use Rattle.std.specs.Option.{option_copied};
 ghost use Rattle.shared_map.specs.Entries.{look, put, IsInOrder, PutsOnly};
@@ -32,6 +33,7 @@ impl<K: Ord + Drop, V: Drop> Model for SharedMap<K, V> {
 }
 
 impl<K: Ord + Drop, V: Drop> SharedMap<K, V> {
+    /// No entries. It takes no memory.
     pub fn empty() -> SharedMap<K, V>
         ensures { result ≡ [] }
     {
@@ -40,6 +42,7 @@ impl<K: Ord + Drop, V: Drop> SharedMap<K, V> {
         }
     }
 
+    /// How many items there are. It takes one step.
     pub fn len(&self) -> usize
         ensures count { result ≡ length self.now }
         ensures order { IsInOrder K.cmp self.now }
@@ -111,7 +114,8 @@ fn put_entry<K: Ord + Drop, V: Drop>(
     requires order { IsInOrder K.cmp entries.now }
     requires room { length entries.now < 2 ^ 60 }
     ensures put { IfOk result (λ list. list ≡ put K.cmp entries.now entry.value) }
-    ensures grown { IfOk result (λ list. (length entries.now ≤ length list) × (length list ≤ length entries.now + 1)) }
+    ensures kept { IfOk result (λ list. length entries.now ≤ length list) }
+    ensures grown { IfOk result (λ list. length list ≤ length entries.now + 1) }
 {
     match &entries.node {
         Node::Leaf => fork(alloc, SharedList::empty(), entry, SharedList::empty()),

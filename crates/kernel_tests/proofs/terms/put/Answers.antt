@@ -1,6 +1,6 @@
 use Rattle.std.proofs.Common.{arith}
 use Rattle.core_term.proofs.FreeVariables.{numbered-substituted}
-use Rattle.core_term.proofs.tests.put.Goals as goal
+use Rattle.kernel_tests.proofs.terms.put.Goals as goal
 
 pub subst-requires : goal.subst-requires
 subst-requires g c =

@@ -1,4 +1,4 @@
-use crate::{Node, Sort, Term, TermStop, product_sort, sort_le};
+use core_term::{Node, Sort, Term, TermStop, product_sort, sort_le};
 use base_core::Text;
 use std::alloc::Global;
 use std::process::Abort;

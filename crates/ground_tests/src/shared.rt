@@ -1,5 +1,6 @@
-use super::*;
+//! Shared maps and lists: what a change leaves as it was, and how deep long ones are.
 use base_core::NoMem;
+use shared_map::{SharedList, SharedMap};
 use std::alloc::Global;
 use std::process::Abort;
 

@@ -1,4 +1,4 @@
-use crate::{Context, Entry, EntryKind, Fuel, GlobalEnv, Hyp};
+use cic_rules::{Context, Entry, EntryKind, Fuel, GlobalEnv, Hyp};
 use base_core::{NumberList, Text};
 use core_term::{Sort, Term};
 use std::alloc::Global;

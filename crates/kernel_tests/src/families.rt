@@ -1,9 +1,9 @@
 ghost use Rattle.std.specs.Prelude.{◌≡◌, [], ◌∷◌, IfOk, codes};
-ghost use Rattle.core_term.specs.Tree.{Universe, Variable, Const, Product, Apply};
+ghost use Rattle.core_term.specs.Tree.{Sorted, Var, Constant, Prod, App};
 ghost use Rattle.cic_rules.specs.Contexts.{plain_hyp};
 ghost use Rattle.cic_rules.specs.EnterFamily.{MayEnterFamily};
 
-use crate::{
+use cic_rules::{
     ContextList, Ctor, CtorList, Entry, EntryKind, EntryList, GlobalEnv, Hyp, InductiveDecl,
 };
 use base_core::{NumberList, Text};
@@ -15,20 +15,20 @@ use std::test::Fail;
 // The family of these tests, in the empty environment: box (A : Prop) : Prop := b : box A.
 
 fn prop(alloc: Global) -> Result<Term, TermStop>
-    ensures { IfOk result (λ t. t ≡ Universe Sort.PropSort) }
+    ensures { IfOk result (λ t. t ≡ Sorted Sort.PropSort) }
 {
     Term::sort(alloc, Sort::PropSort)
 }
 
 fn over(alloc: Global, name: &str, domain: Term, codomain: Term) -> Result<Term, TermStop>
-    ensures { IfOk result (λ t. t ≡ Product name.now domain codomain) }
+    ensures { IfOk result (λ t. t ≡ Prod name.now domain codomain) }
 {
     let name = Text::copy(alloc, name)?;
     Term::prod(alloc, name, domain, codomain)
 }
 
 fn box_at(alloc: Global, i: u32) -> Result<Term, TermStop>
-    ensures { IfOk result (λ t. t ≡ Apply (Const 0) (Variable i)) }
+    ensures { IfOk result (λ t. t ≡ App (Constant 0) (Var i)) }
 {
     let family = Term::constant(alloc, 0)?;
     let argument = Term::var(alloc, i)?;
@@ -38,9 +38,9 @@ fn box_at(alloc: Global, i: u32) -> Result<Term, TermStop>
 fn declaration(alloc: Global) -> Result<InductiveDecl, Fail>
     ensures { IfOk result (λ d. d ≡ record {
       name = codes "box";
-      params = plain_hyp (codes "A") (Universe Sort.PropSort) ∷ [];
-      arity = Universe Sort.PropSort;
-      ctors = record { name = codes "b"; ty = Apply (Const 0) (Variable 0) } ∷ [];
+      params = plain_hyp (codes "A") (Sorted Sort.PropSort) ∷ [];
+      arity = Sorted Sort.PropSort;
+      ctors = record { name = codes "b"; ty = App (Constant 0) (Var 0) } ∷ [];
     }) }
 {
     let mut params = ContextList::new(alloc);
@@ -65,7 +65,7 @@ fn declaration(alloc: Global) -> Result<InductiveDecl, Fail>
 fn type_entry(alloc: Global) -> Result<Entry, Fail>
     ensures { IfOk result (λ e. e ≡ record {
       name = codes "box";
-      ty = Product (codes "A") (Universe Sort.PropSort) (Universe Sort.PropSort);
+      ty = Prod (codes "A") (Sorted Sort.PropSort) (Sorted Sort.PropSort);
       kind = EntryKind.Inductive 1;
       used = [];
     }) }
@@ -81,10 +81,10 @@ fn type_entry(alloc: Global) -> Result<Entry, Fail>
 // forall (A : Prop) (P : Prop), P -> box A -> P
 fn eliminator_type(alloc: Global) -> Result<Term, TermStop>
     ensures { IfOk result (λ t. t ≡
-        Product (codes "A") (Universe Sort.PropSort)
-        (Product (codes "P") (Universe Sort.PropSort)
-        (Product (codes "f_b") (Variable 0)
-        (Product (codes "b") (Apply (Const 0) (Variable 2)) (Variable 2))))) }
+        Prod (codes "A") (Sorted Sort.PropSort)
+        (Prod (codes "P") (Sorted Sort.PropSort)
+        (Prod (codes "f_b") (Var 0)
+        (Prod (codes "b") (App (Constant 0) (Var 2)) (Var 2))))) }
 {
     let value = over(alloc, "b", box_at(alloc, 2)?, Term::var(alloc, 2)?)?;
     let case = over(alloc, "f_b", Term::var(alloc, 0)?, value)?;
