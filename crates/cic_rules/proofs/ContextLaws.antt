@@ -1,8 +1,8 @@
 -- What another name at a place leaves as it is.
-use Rattle.std.proofs.Common.{◌≡◌, ℕ, zero, suc, List, [], ◌∷◌, length, Some, refl, ap, arith}
+use Rattle.std.proofs.Common.{◌≡◌, ℕ, zero, suc, List, [], ◌∷◌, ◌++◌, length, Some, None, refl, ap, arith}
 use Rattle.std.specs.Prelude.{slice_get, slice_set}
 use Rattle.cic_rules.specs.declared.context.Hyp.{Hyp}
-use Rattle.cic_rules.specs.Contexts.{renamed, IsContext, AreHyps}
+use Rattle.cic_rules.specs.Contexts.{renamed, IsContext, AreHyps, AreParams}
 
 length-renamed : (ctx : List Hyp) (i : ℕ) (name : List ℕ) → length (renamed ctx i name) ≡ length ctx
 length-renamed [] i name = refl
@@ -26,3 +26,8 @@ set_renamed (x ∷ hs) zero old new h ty value =
     let made : new ≡ record x { name = new.name } = grind (arith, same) in
     ap (λ n. n ∷ hs) made
 set_renamed (x ∷ hs) (suc i) old new h ty value = ap (λ more. x ∷ more) (set_renamed hs i old new h ty value)
+
+-- one more parameter
+pub params_last : (hs : List Hyp) (h : Hyp) → AreParams hs → h.value ≡ None → AreParams (hs ++ (h ∷ []))
+params_last [] h all none = (none, tt)
+params_last (x ∷ hs) h all none = (all.0, params_last hs h all.1 none)

@@ -1,7 +1,7 @@
 -- An environment with one more global.
 use Rattle.std.specs.Ordering.{is_eq}
-use Rattle.std.proofs.Common.{◌≡◌, ℕ, suc, ◌+◌, ◌^◌, ◌<◌, cond, List, [], ◌∷◌, ◌++◌, length, Option, Some, None, refl, sym, ap, ◌∙◌, arith, length-append}
-use Rattle.std.specs.Prelude.{insert}
+use Rattle.std.proofs.Common.{◌≡◌, ℕ, suc, ◌+◌, ◌^◌, ◌<◌, cond, Bool, true, false, List, [], ◌∷◌, ◌++◌, length, Option, Some, None, refl, sym, ap, ◌∙◌, arith, length-append}
+use Rattle.std.specs.Prelude.{insert, if◌then◌else◌}
 use Rattle.std.specs.Cmp.Lexicographic.{slice_cmp, nat_list_cmp_total}
 use Rattle.std.specs.Ordering.{nat_cmp}
 use Rattle.core_term.specs.declared.sorts.Sort.{Sort}
@@ -14,7 +14,9 @@ use Rattle.cic_rules.specs.declared.entries.EntryKind.{EntryKind}
 use Rattle.cic_rules.specs.declared.entries.EntryKind.TheVariants.{Assumed, Admitted, Defined, Inductive, Constructor, Eliminator}
 use Rattle.cic_rules.specs.declared.env.Slot.{Slot}
 use Rattle.cic_rules.specs.Names.{rank_of}
-use Rattle.cic_rules.specs.Environments.{numbered, place_in, own_slot, slotted, globals_of_all, terms_of, AreAmong, Covers, IsOwn, IsNew, IsSlotAt, AreSlots, IsIndexed, MayEnter}
+use Rattle.cic_rules.specs.Laws.{FoundPlacesAreThere}
+use Rattle.cic_rules.specs.Environments.{numbered, place_in, own_slot, slotted, terms_of, Covers, IsFamilyIfAny, IsOwn, IsNew, IsSlotAt, AreSlots, IsIndexed, MayEnter}
+use Rattle.cic_rules.specs.Scopes.{UseOnly}
 use Rattle.cic_rules.proofs.IndexLaws.{insert_rank}
 
 numbered-last : (n : ℕ) (env : List Slot) (s : Slot) → numbered n (env ++ (s ∷ [])) ≡ numbered n env ++ ((s.entry.name, n + length env) ∷ [])
@@ -53,7 +55,7 @@ indexed_more env index s old room new slot =
           ∙ sym (place_in-last env s name ∙ look-last (slice_cmp nat_cmp) nat_list_cmp_total (numbered 0 env) s.entry.name (length env) new name);
     }
 
-covers_own : (place : ℕ) (kind : EntryKind) (terms : List Tree) (used : List ℕ) → IsOwn kind → AreAmong used (globals_of_all terms) → Covers place kind None terms used
+covers_own : (place : ℕ) (kind : EntryKind) (terms : List Tree) (used : List ℕ) → IsOwn kind → UseOnly used terms → Covers place kind None terms used
 covers_own place Assumed terms used own h = h
 covers_own place Admitted terms used own h = h
 covers_own place (Defined body opaque) terms used own h = h
@@ -61,9 +63,17 @@ covers_own place (Inductive n) terms used own h = absurd own
 covers_own place (Constructor of index) terms used own h = absurd own
 covers_own place (Eliminator of sort) terms used own h = absurd own
 
+family_own : (place : ℕ) (kind : EntryKind) (terms : List Tree) → IsOwn kind → IsFamilyIfAny place kind None terms
+family_own place Assumed terms own = tt
+family_own place Admitted terms own = tt
+family_own place (Defined body opaque) terms own = tt
+family_own place (Inductive n) terms own = absurd own
+family_own place (Constructor of index) terms own = absurd own
+family_own place (Eliminator of sort) terms own = absurd own
+
 -- an entry that may be entered is a global at the next place
 pub own_slot_is : (env : List Slot) (e : Entry) → MayEnter env e → IsSlotAt (length env) (own_slot e)
-own_slot_is env e h = record { entry = h.entry; covers = covers_own (length env) e.kind (terms_of e) e.used h.own h.used }
+own_slot_is env e h = record { entry = h.entry; covers = covers_own (length env) e.kind (terms_of e) e.used h.own h.used; family = family_own (length env) e.kind (terms_of e) h.own }
 
 -- as many globals as entries
 pub length_slotted : (d : Option InductiveDecl) (entries : List Entry) → length (slotted d entries) ≡ length entries
@@ -76,6 +86,20 @@ may_assume env e s new ty kind used =
     record {
       new = new;
       own = rw kind tt;
-      entry = record { closed = rw (ty, kind) (refl, tt); globals = rw (ty, kind) tt; ascending = rw used tt; used = rw used tt };
-      used = rw (ty, kind) tt;
+      entry = record { scoped = rw (ty, kind) (tt, tt); names = record { ascending = rw used tt; before = rw used tt } };
+      used = rw (ty, kind) (tt, tt);
     }
+
+place_split : (b : Bool) (n count : ℕ) (more : Option ℕ) (place : ℕ) → (if b then Some n else more) ≡ Some place →
+    (more ≡ Some place → place < suc n + count) → place < n + suc count
+place_split true n count more place e rest = let same : n ≡ place = cc in omega (arith, same)
+place_split false n count more place e rest = let below = rest e in omega (arith, below)
+
+place_by : (n : ℕ) (env : List Slot) (name : List ℕ) (place : ℕ) → look (slice_cmp nat_cmp) (numbered n env) name ≡ Some place → place < n + length env
+place_by n [] name place e = cc
+place_by n (s ∷ ss) name place e = place_split (is_eq (slice_cmp nat_cmp name s.entry.name)) n (length ss) (look (slice_cmp nat_cmp) (numbered (suc n) ss) name) place e
+    (place_by (suc n) ss name place)
+
+-- a name that is found is that of a global
+pub place_below : FoundPlacesAreThere
+place_below env name place e = let below = place_by 0 env name place e in omega (arith, below)

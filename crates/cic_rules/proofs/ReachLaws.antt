@@ -2,7 +2,8 @@
 use Rattle.std.proofs.Common.{◌≡◌, ℕ, zero, suc, ◌+◌, ◌<◌, ◌≤◌, ◌==◌, nat_lt, List, [], ◌∷◌, ◌++◌, length, Bool, true, false, cond, refl, arith}
 use Rattle.std.proofs.lemmas.Bool.Decides.{nat_tests}
 use Rattle.cic_rules.specs.declared.env.Slot.{Slot}
-use Rattle.cic_rules.specs.Environments.{has, AreBefore, AreSlots}
+use Rattle.cic_rules.specs.Scopes.{has, AreBefore}
+use Rattle.cic_rules.specs.Environments.{AreSlots}
 use Rattle.cic_rules.specs.Infer.{merge_in, union}
 use Rattle.cic_rules.specs.Grounded.{used_at, reached, assumptions, is_assumption, axioms, Reaches, Uses, UsesFurther}
 use Rattle.cic_rules.specs.Laws.{UsesBefore, EntriesUseBefore, AxiomsAreReached}
@@ -299,7 +300,7 @@ axioms_are_reached env all place q = (only_reached env place q, all_reached env 
 
 used_before : (n : ℕ) (env : List Slot) (place : ℕ) → AreSlots n env → AreBefore (n + place) (used_at env place)
 used_before n [] place all = tt
-used_before n (s ∷ ss) zero all = let none : n + 0 ≡ n = omega arith in rw none all.0.entry.used
+used_before n (s ∷ ss) zero all = let none : n + 0 ≡ n = omega arith in rw none all.0.entry.names.before
 used_before n (s ∷ ss) (suc place) all =
     let same : n + suc place ≡ suc n + place = omega arith in
     rw same (used_before (suc n) ss place all.1)

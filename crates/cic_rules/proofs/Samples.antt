@@ -12,7 +12,7 @@ use Rattle.cic_rules.specs.Environments.{own_slot, slotted}
 use Rattle.cic_rules.specs.Families.{iota}
 use Rattle.cic_rules.specs.Inductive.{ALL_SORTS}
 use Rattle.cic_rules.specs.Eliminators.{eliminator_type, family_entries}
-use Rattle.cic_rules.specs.Runs.{done, out, refused, repeat}
+use Rattle.cic_rules.specs.Runs.{pure, out_of, refuse, repeat}
 use Rattle.cic_rules.specs.Reduce.{whnf_at}
 use Rattle.cic_rules.specs.Convert.{conv_at, blocker_at}
 use Rattle.cic_rules.specs.Infer.{infer_at, inferred}
@@ -29,79 +29,79 @@ abbrev A : Tree
 A = Constant 0
 
 -- let x : Prop := A in x
-whnf_let : whnf_at ASSUMED true 2000 [] (LetIn X (Sorted PropSort) A (Var 0)) 1000000 ≡ done A 999999
+whnf_let : whnf_at ASSUMED true 2000 [] (LetIn X (Sorted PropSort) A (Var 0)) 1000000 ≡ pure A 999999
 unfolding repeat whnf_at
 whnf_let = refl
 
 -- (fun x : Prop => x) A and A: a unit for the sizes that differ, two for beta
-conv_beta : conv_at ASSUMED 2000 [] Same (App (Lam X (Sorted PropSort) (Var 0)) A) A 1000000 ≡ done true 999997
+conv_beta : conv_at ASSUMED 2000 [] Same (App (Lam X (Sorted PropSort) (Var 0)) A) A 1000000 ≡ pure true 999997
 unfolding repeat whnf_at conv_at blocker_at
 conv_beta = refl
 
 -- .. and with two units alone
-conv_poor : conv_at ASSUMED 2000 [] Same (App (Lam X (Sorted PropSort) (Var 0)) A) A 2 ≡ out StepLimit 0
+conv_poor : conv_at ASSUMED 2000 [] Same (App (Lam X (Sorted PropSort) (Var 0)) A) A 2 ≡ out_of StepLimit 0
 unfolding repeat whnf_at conv_at blocker_at
 conv_poor = refl
 
 -- no more judgement may begin: nothing is charged
-conv_deep : conv_at ASSUMED 0 [] Same A A 5 ≡ out DepthLimit 5
+conv_deep : conv_at ASSUMED 0 [] Same A A 5 ≡ out_of DepthLimit 5
 unfolding conv_at
 conv_deep = refl
 
 -- a sort is below a greater one, and not the same
-conv_below : conv_at ASSUMED 2000 [] Below (Sorted PropSort) (Sorted SetSort) 9 ≡ done true 8
+conv_below : conv_at ASSUMED 2000 [] Below (Sorted PropSort) (Sorted SetSort) 9 ≡ pure true 8
 unfolding repeat whnf_at conv_at blocker_at
 conv_below = refl
 
-conv_same : conv_at ASSUMED 2000 [] Same (Sorted PropSort) (Sorted SetSort) 9 ≡ done false 8
+conv_same : conv_at ASSUMED 2000 [] Same (Sorted PropSort) (Sorted SetSort) 9 ≡ pure false 8
 unfolding repeat whnf_at conv_at blocker_at
 conv_same = refl
 
 -- A
-infer_global : infer_at ASSUMED 2000 [] A 1000000 ≡ done (inferred (Sorted PropSort) (0 ∷ [])) 999999
+infer_global : infer_at ASSUMED 2000 [] A 1000000 ≡ pure (inferred (Sorted PropSort) (0 ∷ [])) 999999
 unfolding repeat whnf_at conv_at infer_at
 infer_global = refl
 
 -- forall x : A, A
-infer_product : infer_at ASSUMED 2000 [] (Prod X A A) 1000000 ≡ done (inferred (Sorted PropSort) (0 ∷ [])) 999997
+infer_product : infer_at ASSUMED 2000 [] (Prod X A A) 1000000 ≡ pure (inferred (Sorted PropSort) (0 ∷ [])) 999997
 unfolding repeat whnf_at conv_at infer_at
 infer_product = refl
 
 -- fun x : A => x
-infer_identity : infer_at ASSUMED 2000 [] (Lam X A (Var 0)) 1000000 ≡ done (inferred (Prod X A A) (0 ∷ [])) 999996
+infer_identity : infer_at ASSUMED 2000 [] (Lam X A (Var 0)) 1000000 ≡ pure (inferred (Prod X A A) (0 ∷ [])) 999996
 unfolding repeat whnf_at conv_at infer_at
 infer_identity = refl
 
 -- the last level of Type has no type; the level before has
-infer_last : infer_at ASSUMED 2000 [] (Sorted (TypeSort 1000)) 5 ≡ refused 24 4
+infer_last : infer_at ASSUMED 2000 [] (Sorted (TypeSort 1000)) 5 ≡ refuse 24 4
 unfolding infer_at
 infer_last = refl
 
-infer_level : infer_at ASSUMED 2000 [] (Sorted (TypeSort 999)) 5 ≡ done (inferred (Sorted (TypeSort 1000)) []) 4
+infer_level : infer_at ASSUMED 2000 [] (Sorted (TypeSort 999)) 5 ≡ pure (inferred (Sorted (TypeSort 1000)) []) 4
 unfolding infer_at
 infer_level = refl
 
 -- a variable and a global that are not there
-infer_unbound : infer_at ASSUMED 2000 [] (Var 0) 5 ≡ refused 20 4
+infer_unbound : infer_at ASSUMED 2000 [] (Var 0) 5 ≡ refuse 20 4
 unfolding infer_at
 infer_unbound = refl
 
-infer_no_global : infer_at ASSUMED 2000 [] (Constant 1) 5 ≡ refused 20 4
+infer_no_global : infer_at ASSUMED 2000 [] (Constant 1) 5 ≡ refuse 20 4
 unfolding infer_at
 infer_no_global = refl
 
 -- A applied to A, though A is no function
-infer_no_function : infer_at ASSUMED 2000 [] (App A A) 1000000 ≡ refused 21 999998
+infer_no_function : infer_at ASSUMED 2000 [] (App A A) 1000000 ≡ refuse 21 999998
 unfolding repeat whnf_at conv_at infer_at
 infer_no_function = refl
 
 -- forall x : A, x is no type
-infer_no_type : infer_at ASSUMED 2000 [] (Prod X A (Var 0)) 9 ≡ refused 23 6
+infer_no_type : infer_at ASSUMED 2000 [] (Prod X A (Var 0)) 9 ≡ refuse 23 6
 unfolding repeat whnf_at conv_at infer_at
 infer_no_type = refl
 
 -- let x : Prop := Prop in x: the value's type is Type, which is not below Prop
-infer_wrong : infer_at ASSUMED 2000 [] (LetIn X (Sorted PropSort) (Sorted PropSort) (Var 0)) 9 ≡ refused 22 4
+infer_wrong : infer_at ASSUMED 2000 [] (LetIn X (Sorted PropSort) (Sorted PropSort) (Var 0)) 9 ≡ refuse 22 4
 unfolding repeat whnf_at conv_at infer_at blocker_at
 infer_wrong = refl
 
@@ -112,6 +112,20 @@ NUMBERS =
     ∷ own_slot (record { name = (122 ∷ []); ty = Constant 0; kind = Assumed; used = (0 ∷ []) })
     ∷ own_slot (record { name = (115 ∷ []); ty = Prod X (Constant 0) (Constant 0); kind = Assumed; used = (0 ∷ []) })
     ∷ []
+
+-- fun x : nat => s x and s: a unit for the sizes, one for eta, and three for s x and s x; and the other way round
+conv_eta_left : conv_at NUMBERS 2000 [] Same (Lam X (Constant 0) (App (Constant 2) (Var 0))) (Constant 2) 9 ≡ pure true 4
+unfolding repeat whnf_at conv_at blocker_at
+conv_eta_left = refl
+
+conv_eta_right : conv_at NUMBERS 2000 [] Same (Constant 2) (Lam X (Constant 0) (App (Constant 2) (Var 0))) 9 ≡ pure true 4
+unfolding repeat whnf_at conv_at blocker_at
+conv_eta_right = refl
+
+-- fun x : nat => z and s: what stands under the binder is not the same
+conv_eta_fails : conv_at NUMBERS 2000 [] Same (Lam X (Constant 0) (Constant 1)) (Constant 2) 9 ≡ pure false 6
+unfolding repeat whnf_at conv_at blocker_at
+conv_eta_fails = refl
 
 -- trees o : Set, at the place 3, of the constructors e : o and l : (nat -> o) -> o
 abbrev TREES : InductiveDecl

@@ -1,9 +1,9 @@
 -- Contexts as lists of hypotheses, the newest first.
-use Rattle.std.specs.Prelude.{ℕ, ◌^◌, ◌≤◌, nat_lt, zero, suc, List, [], ◌∷◌, length, Option, Some, None, Result, Ok, Err, if◌then◌else◌, slice_get}
+use Rattle.std.specs.Prelude.{◌≡◌, ℕ, ◌^◌, ◌≤◌, nat_lt, zero, suc, List, [], ◌∷◌, length, Option, Some, None, Result, Ok, Err, if◌then◌else◌, slice_get}
 use Rattle.base_core.specs.declared.refusals.Stop.{Stop}
 use Rattle.base_core.specs.declared.refusals.Stop.TheVariants.{Out}
 use Rattle.base_core.specs.declared.refusals.Limit.TheVariants.{SizeLimit}
-use Rattle.core_term.specs.Tree.{Tree, free_bound}
+use Rattle.core_term.specs.Tree.{Tree, Prod, free_bound}
 use Rattle.core_term.specs.Places.{lift_of}
 use Rattle.cic_rules.specs.declared.context.Hyp.{Hyp}
 
@@ -49,7 +49,7 @@ plain_hyp name ty = record { name = name; ty = ty; value = None }
 abbrev pub defined_hyp : List ℕ → Tree → Tree → Hyp
 defined_hyp name ty value = record { name = name; ty = ty; value = Some value }
 
-abbrev lifted_type : ℕ → Option Hyp → Option Tree
+abbrev pub lifted_type : ℕ → Option Hyp → Option Tree
 lifted_type i None = None
 lifted_type i (Some h) = Some (lift_of h.ty (suc i) 0)
 
@@ -57,14 +57,24 @@ lifted_type i (Some h) = Some (lift_of h.ty (suc i) 0)
 abbrev pub type_of_variable : List Hyp → ℕ → Option Tree
 type_of_variable ctx i = lifted_type i (slice_get ctx i)
 
-abbrev lifted_if_any : ℕ → Option Tree → Option Tree
+abbrev pub lifted_if_any : ℕ → Option Tree → Option Tree
 lifted_if_any i None = None
 lifted_if_any i (Some t) = Some (lift_of t (suc i) 0)
 
-abbrev lifted_value : ℕ → Option Hyp → Option Tree
+abbrev pub lifted_value : ℕ → Option Hyp → Option Tree
 lifted_value i None = None
 lifted_value i (Some h) = lifted_if_any i h.value
 
 -- the definition of a variable, where the context has one, as it stands in the whole context
 abbrev pub value_of_variable : List Hyp → ℕ → Option Tree
 value_of_variable ctx i = lifted_value i (slice_get ctx i)
+
+-- the products over hypotheses, oldest first
+abbrev pub products_over : List Hyp → Tree → Tree
+products_over [] t = t
+products_over (h ∷ hs) t = Prod h.name h.ty (products_over hs t)
+
+-- parameters are hypotheses without definitions
+abbrev pub AreParams : List Hyp → Type 0
+AreParams [] = Unit {0}
+AreParams (h ∷ hs) = (h.value ≡ None) × AreParams hs

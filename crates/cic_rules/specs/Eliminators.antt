@@ -10,8 +10,9 @@ use Rattle.cic_rules.specs.declared.decls.Ctor.{Ctor}
 use Rattle.cic_rules.specs.declared.entries.Entry.{Entry}
 use Rattle.cic_rules.specs.declared.entries.EntryKind.TheVariants.{Inductive, Constructor, Eliminator}
 use Rattle.cic_rules.specs.declared.env.Slot.{Slot}
+use Rattle.cic_rules.specs.Contexts.{products_over}
 use Rattle.cic_rules.specs.Environments.{decl_at}
-use Rattle.cic_rules.specs.Rows.{head_of, apply_all, end_of_products, products_over, mentions, shift, shift_all, eta_body, variables_of, instantiate, instantiate_all, values_under}
+use Rattle.cic_rules.specs.Rows.{head_of, apply_all, end_of_products, mentions, shift, shift_all, eta_body, variables_of, instantiate, instantiate_all, values_under}
 use Rattle.cic_rules.specs.Families.{count_params, count_ctors, indices, newest_first}
 
 -- one name

@@ -6,7 +6,7 @@ use Rattle.base_core.specs.declared.refusals.Stop.{Stop}
 use Rattle.base_core.specs.declared.refusals.Stop.TheVariants.{Out}
 use Rattle.base_core.specs.declared.refusals.Limit.TheVariants.{SizeLimit}
 use Rattle.shared_map.specs.Entries.{look, IsInOrder}
-use Rattle.core_term.specs.Tree.{Tree, Var, Sorted, Constant, Prod, Lam, LetIn, App, free_bound}
+use Rattle.core_term.specs.Tree.{Tree, Var, Sorted, Constant, Prod, Lam, LetIn, App}
 use Rattle.cic_rules.specs.declared.context.Hyp.{Hyp}
 use Rattle.cic_rules.specs.declared.decls.InductiveDecl.{InductiveDecl}
 use Rattle.cic_rules.specs.declared.decls.Ctor.{Ctor}
@@ -14,8 +14,10 @@ use Rattle.cic_rules.specs.declared.entries.Entry.{Entry}
 use Rattle.cic_rules.specs.declared.entries.EntryKind.{EntryKind}
 use Rattle.cic_rules.specs.declared.entries.EntryKind.TheVariants.{Assumed, Admitted, Defined, Inductive, Constructor, Eliminator}
 use Rattle.cic_rules.specs.declared.env.Slot.{Slot}
+use Rattle.cic_rules.specs.Contexts.{products_over}
+use Rattle.cic_rules.specs.Scopes.{IsScoped, AreScoped, UseOnly, AreNames}
 
-abbrev slot_entry : Option Slot → Option Entry
+abbrev pub slot_entry : Option Slot → Option Entry
 slot_entry None = None
 slot_entry (Some s) = Some s.entry
 
@@ -23,7 +25,7 @@ slot_entry (Some s) = Some s.entry
 abbrev pub entry_at : List Slot → ℕ → Option Entry
 entry_at env place = slot_entry (slice_get env place)
 
-abbrev slot_decl : Option Slot → Option InductiveDecl
+abbrev pub slot_decl : Option Slot → Option InductiveDecl
 slot_decl None = None
 slot_decl (Some s) = s.decl
 
@@ -31,7 +33,7 @@ slot_decl (Some s) = s.decl
 abbrev pub decl_at : List Slot → ℕ → Option InductiveDecl
 decl_at env place = slot_decl (slice_get env place)
 
-abbrev entry_type : Option Entry → Option Tree
+abbrev pub entry_type : Option Entry → Option Tree
 entry_type None = None
 entry_type (Some e) = Some e.ty
 
@@ -39,11 +41,11 @@ entry_type (Some e) = Some e.ty
 abbrev pub type_of_global : List Slot → ℕ → Option Tree
 type_of_global env place = entry_type (entry_at env place)
 
-abbrev transparent : EntryKind → Option Tree
+abbrev pub transparent : EntryKind → Option Tree
 transparent (Defined body false) = Some body
 transparent _ = None
 
-abbrev entry_body : Option Entry → Option Tree
+abbrev pub entry_body : Option Entry → Option Tree
 entry_body None = None
 entry_body (Some e) = transparent e.kind
 
@@ -91,47 +93,12 @@ globals_of (Lam _ a b) = globals_of a ++ globals_of b
 globals_of (LetIn _ a t b) = globals_of a ++ (globals_of t ++ globals_of b)
 globals_of (App f a) = globals_of f ++ globals_of a
 
--- those in several terms
-abbrev pub globals_of_all : List Tree → List ℕ
-globals_of_all [] = []
-globals_of_all (t ∷ ts) = globals_of t ++ globals_of_all ts
-
--- the place is in the list
-abbrev pub has : List ℕ → ℕ → Bool
-has [] place = false
-has (p ∷ ps) place = if p == place then true else has ps place
-
--- each of the places is in the list
-abbrev pub AreAmong : List ℕ → List ℕ → Type 0
-AreAmong list [] = Unit {0}
-AreAmong list (p ∷ ps) = IsTrue (has list p) × AreAmong list ps
-
--- each of the places is before this one
-abbrev pub AreBefore : ℕ → List ℕ → Type 0
-AreBefore place [] = Unit {0}
-AreBefore place (p ∷ ps) = (p < place) × AreBefore place ps
-
--- each of the places is behind this one
-abbrev pub AreBehind : ℕ → List ℕ → Type 0
-AreBehind place [] = Unit {0}
-AreBehind place (p ∷ ps) = (place < p) × AreBehind place ps
-
--- the places ascend, so that each stands once
-abbrev pub IsAscending : List ℕ → Type 0
-IsAscending [] = Unit {0}
-IsAscending (p ∷ ps) = AreBehind p ps × IsAscending ps
-
 -- the places without one of them
 abbrev pub without : ℕ → List ℕ → List ℕ
 without place [] = []
 without place (p ∷ ps) = if p == place then without place ps else p ∷ without place ps
 
--- no term has a free variable
-abbrev pub AreClosed : List Tree → Type 0
-AreClosed [] = Unit {0}
-AreClosed (t ∷ ts) = (free_bound t ≡ 0) × AreClosed ts
-
-abbrev kind_terms : EntryKind → List Tree
+abbrev pub kind_terms : EntryKind → List Tree
 kind_terms (Defined body _) = body ∷ []
 kind_terms _ = []
 
@@ -151,26 +118,47 @@ ctor_types (c ∷ cs) = c.ty ∷ ctor_types cs
 abbrev pub decl_terms : InductiveDecl → List Tree
 decl_terms d = hyp_types d.params ++ (d.arity ∷ ctor_types d.ctors)
 
--- what is true of each entry that stands at a place
+-- what is true of each entry that stands at a place: it speaks of nothing but the entries before it
 pub record IsEntryAt (place : ℕ) (e : Entry) : Type 0 where
-  pub closed : AreClosed (terms_of e)
-  pub globals : AreBefore place (globals_of_all (terms_of e))
-  pub ascending : IsAscending e.used
-  pub used : AreBefore place e.used
+  pub scoped : AreScoped 0 place (terms_of e)
+  pub names : AreNames place e.used
 
 -- the names used have each global that the entry speaks of; a member of a family uses the inductive type
 abbrev pub Covers : ℕ → EntryKind → Option InductiveDecl → List Tree → List ℕ → Type 0
-Covers place (Inductive _) (Some d) terms used = AreAmong used (without place (globals_of_all (decl_terms d)))
+Covers place (Inductive _) (Some d) terms used = UseOnly (place ∷ used) (decl_terms d)
 Covers place (Inductive _) None terms used = ⊥
 Covers place (Constructor of _) None terms used = used ≡ of ∷ []
 Covers place (Eliminator of _) None terms used = used ≡ of ∷ []
-Covers place _ None terms used = AreAmong used (globals_of_all terms)
+Covers place _ None terms used = UseOnly used terms
 Covers place _ (Some d) terms used = ⊥
+
+-- the constructors' types stand in the context of so many parameters
+abbrev pub AreScopedCtors : ℕ → ℕ → List Ctor → Type 0
+AreScopedCtors vars globals [] = Unit {0}
+AreScopedCtors vars globals (c ∷ cs) = IsScoped vars globals c.ty × AreScopedCtors vars globals cs
+
+-- a declaration whose globals are among so many: its arity over its parameters, and its constructors' types in the context of them
+pub record IsScopedDecl (globals : ℕ) (d : InductiveDecl) : Type 0 where
+  pub arity : IsScoped 0 globals (products_over d.params d.arity)
+  pub ctors : AreScopedCtors (length d.params) globals d.ctors
+
+-- an inductive type has so many constructors as its kind says, its type is its arity over its parameters, and its constructors' types
+-- stand in the context of the parameters
+pub record IsFamily (place n : ℕ) (d : InductiveDecl) (terms : List Tree) : Type 0 where
+  pub count : n ≡ length d.ctors
+  pub ty : terms ≡ products_over d.params d.arity ∷ []
+  pub ctors : AreScopedCtors (length d.params) (suc place) d.ctors
+
+-- that is so wherever there is a declaration
+abbrev pub IsFamilyIfAny : ℕ → EntryKind → Option InductiveDecl → List Tree → Type 0
+IsFamilyIfAny place (Inductive n) (Some d) terms = IsFamily place n d terms
+IsFamilyIfAny place _ _ terms = Unit {0}
 
 -- what is true of each global at its place: it has a declaration exactly where it is an inductive type
 pub record IsSlotAt (place : ℕ) (s : Slot) : Type 0 where
   pub entry : IsEntryAt place s.entry
   pub covers : Covers place s.entry.kind s.decl (terms_of s.entry) s.entry.used
+  pub family : IsFamilyIfAny place s.entry.kind s.decl (terms_of s.entry)
 
 -- each global may stand where it stands, the first at this place
 abbrev pub AreSlots : ℕ → List Slot → Type 0
@@ -200,7 +188,7 @@ pub record MayEnter (env : List Slot) (e : Entry) : Type 0 where
   pub new : IsNew env e.name
   pub own : IsOwn e.kind
   pub entry : IsEntryAt (length env) e
-  pub used : AreAmong e.used (globals_of_all (terms_of e))
+  pub used : UseOnly e.used (terms_of e)
 
 -- the environment with these globals, where it has room
 abbrev pub all_entered : List Slot → List Slot → Result (List Slot) Stop

@@ -30,18 +30,18 @@ abbrev pub count_fixed : InductiveDecl → ℕ
 count_fixed d = count_params d + 1 + count_ctors d
 
 -- how many stand before its value
-abbrev pub count_before_value : InductiveDecl → ℕ
-count_before_value d = count_fixed d + count_indices d
+abbrev pub major_index : InductiveDecl → ℕ
+major_index d = count_fixed d + count_indices d
 
-abbrev family_at : ℕ → Option InductiveDecl → Option Family
+abbrev pub family_at : ℕ → Option InductiveDecl → Option Family
 family_at place None = None
 family_at place (Some d) = Some (record { place = place; decl = d })
 
-abbrev eliminated : List Slot → EntryKind → Option Family
+abbrev pub eliminated : List Slot → EntryKind → Option Family
 eliminated env (Eliminator of _) = family_at of (decl_at env of)
 eliminated env _ = None
 
-abbrev eliminated_by : List Slot → Option Entry → Option Family
+abbrev pub eliminated_by : List Slot → Option Entry → Option Family
 eliminated_by env None = None
 eliminated_by env (Some e) = eliminated env e.kind
 
@@ -50,11 +50,11 @@ abbrev pub eliminator_of : List Slot → Tree → Option Family
 eliminator_of env (Constant c) = eliminated_by env (entry_at env c)
 eliminator_of env _ = None
 
-abbrev constructed : ℕ → EntryKind → Option ℕ
+abbrev pub constructed : ℕ → EntryKind → Option ℕ
 constructed place (Constructor of index) = if of == place then Some index else None
 constructed place _ = None
 
-abbrev constructed_by : ℕ → Option Entry → Option ℕ
+abbrev pub constructed_by : ℕ → Option Entry → Option ℕ
 constructed_by place None = None
 constructed_by place (Some e) = constructed place e.kind
 
@@ -63,19 +63,19 @@ abbrev pub constructor_of : List Slot → ℕ → Tree → Option ℕ
 constructor_of env place (Constant c) = constructed_by place (entry_at env c)
 constructor_of env place _ = None
 
-abbrev value_among : List Tree → Option Family → Option Tree
+abbrev pub value_among : List Tree → Option Family → Option Tree
 value_among args None = None
-value_among args (Some f) = slice_get args (count_before_value f.decl)
+value_among args (Some f) = slice_get args (major_index f.decl)
 
 -- the value that an eliminator with all its arguments is applied to
-abbrev pub awaited : List Slot → Tree → List Tree → Option Tree
-awaited env head args = value_among args (eliminator_of env head)
+abbrev pub major_premise : List Slot → Tree → List Tree → Option Tree
+major_premise env head args = value_among args (eliminator_of env head)
 
 -- the arguments with another value
-abbrev pub with_value : List Tree → ℕ → Tree → List Tree
-with_value [] at v = []
-with_value (a ∷ more) zero v = v ∷ more
-with_value (a ∷ more) (suc at) v = a ∷ with_value more at v
+abbrev pub replace_major : List Tree → ℕ → Tree → List Tree
+replace_major [] at v = []
+replace_major (a ∷ more) zero v = v ∷ more
+replace_major (a ∷ more) (suc at) v = a ∷ replace_major more at v
 
 -- terms, the last first
 abbrev pub newest_first : List Tree → List Tree → List Tree
@@ -109,24 +109,24 @@ abbrev pub iota_result : Family → Tree → List Tree → Ctor → Tree → Lis
 iota_result f head args c case ctor_args =
     apply_all
     (case_applied (count_params f.decl) f.place (apply_all head (take (count_fixed f.decl) args)) case (newest_first (take (count_params f.decl) args) []) c.ty ctor_args)
-    (drop (count_before_value f.decl + 1) args)
+    (drop (major_index f.decl + 1) args)
 
-abbrev iota_case : Family → Tree → List Tree → Ctor → Option Tree → List Tree → Option Tree
+abbrev pub iota_case : Family → Tree → List Tree → Ctor → Option Tree → List Tree → Option Tree
 iota_case f head args c None value_args = None
 iota_case f head args c (Some case) value_args =
     if length value_args == count_params f.decl + count_products c.ty
     then Some (iota_result f head args c case (drop (count_params f.decl) value_args))
     else None
 
-abbrev iota_ctor : Family → Tree → List Tree → ℕ → Option Ctor → List Tree → Option Tree
+abbrev pub iota_ctor : Family → Tree → List Tree → ℕ → Option Ctor → List Tree → Option Tree
 iota_ctor f head args index None value_args = None
 iota_ctor f head args index (Some c) value_args = iota_case f head args c (slice_get args (count_params f.decl + 1 + index)) value_args
 
-abbrev iota_index : Family → Tree → List Tree → Option ℕ → List Tree → Option Tree
+abbrev pub iota_index : Family → Tree → List Tree → Option ℕ → List Tree → Option Tree
 iota_index f head args None value_args = None
 iota_index f head args (Some index) value_args = iota_ctor f head args index (slice_get f.decl.ctors index) value_args
 
-abbrev iota_family : List Slot → Option Family → Tree → List Tree → Tree → Option Tree
+abbrev pub iota_family : List Slot → Option Family → Tree → List Tree → Tree → Option Tree
 iota_family env None head args w = None
 iota_family env (Some f) head args w = iota_index f head args (constructor_of env f.place (head_of w)) (arguments_of w)
 

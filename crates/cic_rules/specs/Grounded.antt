@@ -7,9 +7,10 @@ use Rattle.cic_rules.specs.declared.entries.Entry.{Entry}
 use Rattle.cic_rules.specs.declared.entries.EntryKind.{EntryKind}
 use Rattle.cic_rules.specs.declared.entries.EntryKind.TheVariants.{Assumed, Admitted, Defined, Constructor, Eliminator}
 use Rattle.cic_rules.specs.declared.env.Slot.{Slot}
-use Rattle.cic_rules.specs.Environments.{entry_at, decl_at, has}
+use Rattle.cic_rules.specs.Scopes.{has}
+use Rattle.cic_rules.specs.Environments.{entry_at, decl_at}
 use Rattle.cic_rules.specs.Infer.{union}
-use Rattle.cic_rules.specs.Derive.{Derives}
+use Rattle.cic_rules.specs.Derive.{HasType}
 use Rattle.cic_rules.specs.Eliminators.{type_entry, family_entries}
 use Rattle.cic_rules.specs.Inductive.{permitted}
 use Rattle.cic_rules.specs.WellFormed.{KeepsRules}
@@ -63,9 +64,9 @@ family_of _ = None
 -- the entry at a place is grounded in a list of assumptions and admitted theorems; the derivations are in the environment before it
 pub data IsGrounded (env : List Slot) (axs : List ℕ) : ℕ → Type 0 where
   GroundedAssumption : (p : ℕ) (e : Entry) (s : Sort) → entry_at env p ≡ Some e → IsTrue (is_assumption env p) → IsTrue (has axs p) →
-      Derives (take p env) e.used [] e.ty (Sorted s) → ((q : ℕ) → IsTrue (has e.used q) → IsGrounded env axs q) → IsGrounded env axs p
+      HasType (take p env) e.used [] e.ty (Sorted s) → ((q : ℕ) → IsTrue (has e.used q) → IsGrounded env axs q) → IsGrounded env axs p
   GroundedDefinition : (p : ℕ) (e : Entry) (body : Tree) (opaque : Bool) (s : Sort) → entry_at env p ≡ Some e → e.kind ≡ Defined body opaque →
-      Derives (take p env) e.used [] e.ty (Sorted s) → Derives (take p env) e.used [] body e.ty →
+      HasType (take p env) e.used [] e.ty (Sorted s) → HasType (take p env) e.used [] body e.ty →
       ((q : ℕ) → IsTrue (has e.used q) → IsGrounded env axs q) → IsGrounded env axs p
   GroundedInductive : (p : ℕ) (e : Entry) (d : InductiveDecl) (s : Sort) (rows : List (List Sort)) → entry_at env p ≡ Some e →
       decl_at env p ≡ Some d → e ≡ type_entry d e.used → KeepsRules (take p env) d e.used s rows →

@@ -1,5 +1,5 @@
 -- Inductive declarations: their refusals in order, and the sorts that their eliminators may go into.
-use Rattle.std.specs.Prelude.{ℕ, zero, suc, ◌+◌, ◌==◌, List, [], ◌∷◌, ◌++◌, length, take, drop, Bool, true, false, ◌&&◌, if◌then◌else◌}
+use Rattle.std.specs.Prelude.{ℕ, zero, suc, ◌+◌, ◌==◌, nat_lt, List, [], ◌∷◌, ◌++◌, length, take, drop, Bool, true, false, ◌&&◌, Option, Some, None, if◌then◌else◌}
 use Rattle.base_core.specs.declared.refusals.Limit.TheVariants.{DepthLimit}
 use Rattle.core_term.specs.declared.sorts.Sort.{Sort}
 use Rattle.core_term.specs.declared.sorts.Sort.TheVariants.{PropSort, SetSort, TypeSort}
@@ -11,14 +11,17 @@ use Rattle.cic_rules.specs.declared.decls.Ctor.{Ctor}
 use Rattle.cic_rules.specs.declared.entries.Entry.{Entry}
 use Rattle.cic_rules.specs.declared.entries.EntryKind.TheVariants.{Assumed}
 use Rattle.cic_rules.specs.declared.env.Slot.{Slot}
+use Rattle.cic_rules.specs.declared.judge.InferredSort.{InferredSort}
+use Rattle.cic_rules.specs.declared.families.RowSorts.{RowSorts}
+use Rattle.cic_rules.specs.declared.families.CheckedInductive.{CheckedInductive}
 use Rattle.cic_rules.specs.Contexts.{plain_hyp}
-use Rattle.cic_rules.specs.Environments.{entered, is_taken, without}
+use Rattle.cic_rules.specs.Environments.{entered, is_taken, without, globals_of}
 use Rattle.cic_rules.specs.Rows.{head_of, arguments_of, end_of_products, mentions, any_mentions, same_trees, shift_all, variables_of}
 use Rattle.cic_rules.specs.Families.{count_params, count_indices}
-use Rattle.cic_rules.specs.Convert.{within}
-use Rattle.cic_rules.specs.Infer.{union, InferredSort, sort_of_at}
+use Rattle.cic_rules.specs.Convert.{with_hyp}
+use Rattle.cic_rules.specs.Infer.{union, sort_of_at}
 use Rattle.cic_rules.specs.Eliminators.{has_name, eliminator_name, type_of_decl}
-use Rattle.cic_rules.specs.Runs.{Ran, ended, done, out, refused, charge, then_do, made}
+use Rattle.cic_rules.specs.Runs.{Run, ◌>>=◌, ◌>>◌, give, pure, out_of, spend, check_size, require, forbid, some_or}
 
 -- a name stands twice in the list
 abbrev pub has_twice : List (List ℕ) → Bool
@@ -39,61 +42,53 @@ abbrev pub any_taken : List Slot → List (List ℕ) → Bool
 any_taken env [] = false
 any_taken env (n ∷ ns) = if is_taken env n then true else any_taken env ns
 
--- the sort of a row of products, and the sorts of its domains
-pub record RowSorted : Type 0 where
-  pub sort : Sort
-  pub domains : List Sort
-  pub used : List ℕ
+-- a row of products with nothing before its end
+abbrev pub no_domains : InferredSort → RowSorts
+no_domains s = record { sort = s.sort; domains = []; tails = []; used = s.used }
 
-abbrev pub no_domains : InferredSort → ℕ → Ran RowSorted
-no_domains s left = done (record { sort = s.sort; domains = []; used = s.used }) left
-
-abbrev pub with_domain : InferredSort → RowSorted → ℕ → Ran RowSorted
-with_domain s r left =
-    done (record { sort = sort_of_product s.sort r.sort; domains = s.sort ∷ r.domains; used = union s.used r.used }) left
-
-module _ (row : List Hyp → Tree → ℕ → Ran RowSorted) where
-  abbrev pub codomain_row : Tree → InferredSort → List Hyp → ℕ → Ran RowSorted
-  codomain_row b s inner left = then_do (row inner b left) (with_domain s)
-
-  abbrev pub domain_row : List Hyp → List ℕ → Tree → Tree → InferredSort → ℕ → Ran RowSorted
-  domain_row ctx n a b s left = within ctx (plain_hyp n a) (codomain_row b s) left
+-- .. and with one more domain
+abbrev pub with_domain : InferredSort → RowSorts → RowSorts
+with_domain s r =
+    record { sort = sort_of_product s.sort r.sort; domains = s.sort ∷ r.domains; tails = r.sort ∷ r.tails; used = union s.used r.used }
 
 -- the context of the parameters, and the names used so far
 pub record Opened : Type 0 where
   pub ctx : List Hyp
   pub used : List ℕ
 
--- what passes all tests: the sorts that the eliminators may go into, and the names used
-pub record Checked : Type 0 where
-  pub sorts : List Sort
-  pub used : List ℕ
+abbrev pub opened : List Hyp → List ℕ → Opened
+opened ctx used = record { ctx = ctx; used = used }
 
 -- the sorts of each constructor's arguments
-pub record Rows : Type 0 where
+pub record CtorSorts : Type 0 where
   pub rows : List (List Sort)
   pub used : List ℕ
 
+abbrev pub ctor_sorts : List (List Sort) → List ℕ → CtorSorts
+ctor_sorts rows used = record { rows = rows; used = used }
+
 module _ (env : List Slot) where
-  -- the sort of a type as `sort_of` finds it, for the same units, with the sorts that it finds of the leading domains
-  unfoldable pub row_at : ℕ → List Hyp → Tree → ℕ → Ran RowSorted
-  row_at zero ctx t left = out DepthLimit left
-  row_at (suc calls) ctx (Prod n a b) left =
-      charge 1 (λ k. then_do (sort_of_at env calls ctx a k) (domain_row (row_at calls) ctx n a b)) left
-  row_at (suc calls) ctx t left = then_do (sort_of_at env (suc calls) ctx t left) no_domains
+  -- the sort of a type as `sort_of` finds it, for the same units, with the sorts that it finds of the leading domains, and of what
+  -- stands behind each
+  unfoldable pub row_at : ℕ → List Hyp → Tree → Run RowSorts
+  row_at zero ctx t = out_of DepthLimit
+  row_at (suc calls) ctx (Prod n a b) = do
+    spend 1
+    s ← sort_of_at env calls ctx a
+    inner ← with_hyp ctx (plain_hyp n a)
+    r ← row_at calls inner b
+    pure (with_domain s r)
+  row_at (suc calls) ctx t = do
+    s ← sort_of_at env (suc calls) ctx t
+    pure (no_domains s)
 
-  module _ (calls : ℕ) where
-    abbrev pub open_rest : (List Hyp → List ℕ → ℕ → Ran Opened) → List ℕ → List Hyp → ℕ → Ran Opened
-    open_rest rest used inner left = rest inner used left
-
-    abbrev pub open_param : List Hyp → Hyp → List ℕ → (List Hyp → List ℕ → ℕ → Ran Opened) → InferredSort → ℕ → Ran Opened
-    open_param ctx h used rest s left = within ctx (plain_hyp h.name h.ty) (open_rest rest (union used s.used)) left
-
-    -- the parameters, each of a type that has a sort in the context of those before it
-    abbrev pub open_params : List Hyp → List Hyp → List ℕ → ℕ → Ran Opened
-    open_params [] ctx used left = done (record { ctx = ctx; used = used }) left
-    open_params (h ∷ hs) ctx used left =
-        then_do (sort_of_at env calls ctx h.ty left) (open_param ctx h used (open_params hs))
+  -- the parameters, each of a type that has a sort in the context of those before it
+  abbrev pub open_params : ℕ → List Hyp → List Hyp → List ℕ → Run Opened
+  open_params calls [] ctx used = pure (opened ctx used)
+  open_params calls (h ∷ hs) ctx used = do
+    s ← sort_of_at env calls ctx h.ty
+    inner ← with_hyp ctx (plain_hyp h.name h.ty)
+    open_params calls hs inner (union used s.used)
 
 -- the form of a constructor's type, for an inductive type at a place; ps are the parameters as the term sees them
 module _ (place : ℕ) where
@@ -157,59 +152,60 @@ permitted PropSort (r ∷ []) = if are_props r then ALL_SORTS else PropSort ∷ 
 permitted PropSort (r ∷ q ∷ rs) = PropSort ∷ []
 permitted _ rows = ALL_SORTS
 
--- the type as an assumption, while its constructors are judged
-abbrev pub assumed_type : InductiveDecl → Entry
-assumed_type d = record { name = d.name; ty = type_of_decl d; kind = Assumed; used = [] }
+-- the sort at the end of an arity
+abbrev pub sort_at_end : Tree → Option Sort
+sort_at_end (Sorted s) = Some s
+sort_at_end _ = None
 
-abbrev pub with_row : RowSorted → Rows → ℕ → Ran Rows
-with_row r rest left = done (record { rows = r.domains ∷ rest.rows; used = union r.used rest.used }) left
+-- a place among ascending ones, where it is not there yet
+abbrev pub with_place : ℕ → List ℕ → List ℕ
+with_place place [] = place ∷ []
+with_place place (p ∷ ps) = if nat_lt place p then place ∷ p ∷ ps else (if nat_lt p place then p ∷ with_place place ps else p ∷ ps)
+
+-- the places of a list, ascending, each once
+abbrev pub places_in : List ℕ → List ℕ
+places_in [] = []
+places_in (p ∷ ps) = with_place p (places_in ps)
+
+-- the type as an assumption, while its constructors are judged: it uses the globals of its type
+abbrev pub assumed_type : InductiveDecl → Entry
+assumed_type d = record { name = d.name; ty = type_of_decl d; kind = Assumed; used = places_in (globals_of (type_of_decl d)) }
 
 module _ (d : InductiveDecl) where
   -- the parameters as the constructors see them
   abbrev pub params_of : List Tree
   params_of = variables_of (count_params d)
 
-  -- a constructor whose type has a sort, and the others
-  abbrev pub row_found : ℕ → Ctor → (ℕ → Ran Rows) → RowSorted → ℕ → Ran Rows
-  row_found place c rest r left =
-      if is_constructors place params_of (count_indices d) c.ty then then_do (rest left) (with_row r) else refused 31 left
+  -- the constructors in order, each of a type that has a sort with the type assumed, and that is of a constructor's form
+  abbrev pub rows_of : List Slot → ℕ → ℕ → List Hyp → List Ctor → Run CtorSorts
+  rows_of inner place calls ctx [] = pure (ctor_sorts [] [])
+  rows_of inner place calls ctx (c ∷ cs) = do
+    r ← row_at inner calls ctx c.ty
+    require (is_constructors place params_of (count_indices d) c.ty) 31
+    more ← rows_of inner place calls ctx cs
+    pure (ctor_sorts (r.domains ∷ more.rows) (union r.used more.used))
 
-  -- the constructors in order, with the type assumed
-  abbrev pub rows_of : List Slot → ℕ → ℕ → List Hyp → List Ctor → ℕ → Ran Rows
-  rows_of inner place calls ctx [] left = done (record { rows = []; used = [] }) left
-  rows_of inner place calls ctx (c ∷ cs) left =
-      then_do (row_at inner calls ctx c.ty left) (row_found place c (rows_of inner place calls ctx cs))
+  -- what passes all tests, to stand at the next place: the sorts that its eliminators may go into, and the names used but its own
+  abbrev pub checked : List Slot → Sort → List (List Sort) → List ℕ → CheckedInductive
+  checked env s rows used =
+      record { decl = d; place = length env; used = without (length env) used; sorts = permitted s rows }
 
-  -- last positivity of all constructors, and then their universes
-  abbrev pub settled : ℕ → Sort → List ℕ → Rows → ℕ → Ran Checked
-  settled place s used rows left =
-      if are_positive place params_of d.ctors
-      then (if rows_fit s rows.rows
-      then done (record { sorts = permitted s rows.rows; used = without place (union used rows.used) }) left
-      else refused 33 left)
-      else refused 32 left
-
-  module _ (env : List Slot) (calls : ℕ) (s : Sort) where
-    abbrev pub constructors_judged : List Hyp → List ℕ → List Slot → ℕ → Ran Checked
-    constructors_judged ctx used inner left =
-        then_do (rows_of inner (length env) calls ctx d.ctors left) (settled (length env) s used)
-
-    abbrev pub type_assumed : List Hyp → List ℕ → ℕ → Ran Checked
-    type_assumed ctx used left = then_do (ended (entered env (assumed_type d)) left) (constructors_judged ctx used)
-
-    abbrev pub arity_sorted : Opened → InferredSort → ℕ → Ran Checked
-    arity_sorted opened r left = made (type_of_decl d) (type_assumed opened.ctx (union opened.used r.used)) left
-
-    abbrev pub params_opened : Opened → ℕ → Ran Checked
-    params_opened opened left = then_do (sort_of_at env calls opened.ctx d.arity left) (arity_sorted opened)
-
--- the arity must be a row of products, as it stands, that ends in a sort
-abbrev pub by_arity : List Slot → ℕ → InductiveDecl → Tree → ℕ → Ran Checked
-by_arity env calls d (Sorted s) left = then_do (open_params env calls d.params [] [] left) (params_opened d env calls s)
-by_arity env calls d _ left = refused 30 left
+  -- the parameters and the arity, then the constructors, last positivity of all of them and then their universes
+  abbrev pub check_family : List Slot → ℕ → Sort → Run CheckedInductive
+  check_family env calls s = do
+    params ← open_params env calls d.params [] []
+    arity ← sort_of_at env calls params.ctx d.arity
+    check_size (type_of_decl d)
+    inner ← give (entered env (assumed_type d))
+    found ← rows_of inner (length env) calls params.ctx d.ctors
+    require (are_positive (length env) params_of d.ctors) 32
+    require (rows_fit s found.rows) 33
+    pure (checked env s found.rows (union (union params.used arity.used) found.used))
 
 -- an inductive declaration, tested in the order of its refusals
-abbrev pub check_inductive_at : List Slot → ℕ → InductiveDecl → ℕ → Ran Checked
-check_inductive_at env calls d left =
-    if has_twice (names_of d) then refused 34 left
-    else (if any_taken env (names_of d) then refused 25 left else by_arity env calls d (end_of_products d.arity) left)
+abbrev pub check_inductive_at : List Slot → ℕ → InductiveDecl → Run CheckedInductive
+check_inductive_at env calls d = do
+  forbid (has_twice (names_of d)) 34
+  forbid (any_taken env (names_of d)) 25
+  s ← some_or 30 (sort_at_end (end_of_products d.arity))
+  check_family d env calls s

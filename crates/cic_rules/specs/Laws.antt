@@ -1,20 +1,28 @@
 -- Laws of the definitions.
-use Rattle.std.specs.Prelude.{◌≡◌, ℕ, ◌+◌, ◌≤◌, ◌<◌, ◌↔◌, Bool, List, Err, IsTrue}
+use Rattle.std.specs.Prelude.{◌≡◌, ℕ, suc, ◌+◌, ◌≤◌, ◌<◌, ◌↔◌, Bool, List, length, Some, Ok, Err, IsTrue}
 use Rattle.base_core.specs.declared.refusals.Stop.TheVariants.{Out}
 use Rattle.base_core.specs.declared.refusals.Limit.TheVariants.{StepLimit}
-use Rattle.core_term.specs.Tree.{Tree}
+use Rattle.core_term.specs.Tree.{Tree, free_bound}
+use Rattle.core_term.specs.Places.{lift_of, subst_of}
 use Rattle.cic_rules.specs.declared.context.Hyp.{Hyp}
 use Rattle.cic_rules.specs.declared.decls.Decl.{Decl}
 use Rattle.cic_rules.specs.declared.env.Slot.{Slot}
+use Rattle.cic_rules.specs.declared.families.RowSorts.{RowSorts}
+use Rattle.cic_rules.specs.declared.judge.InferredSort.{InferredSort}
 use Rattle.cic_rules.specs.declared.judge.Mode.{Mode}
-use Rattle.cic_rules.specs.Environments.{has, AreBefore, IsAscending, IsEnvironment}
-use Rattle.cic_rules.specs.Derive.{IsFormed, Derives}
+use Rattle.cic_rules.specs.Scopes.{has, AreBefore, IsAscending, IsScoped, AreScoped, IsScopedContext}
+use Rattle.cic_rules.specs.Judges.{IsInferredIn}
+use Rattle.cic_rules.specs.declared.decls.InductiveDecl.{InductiveDecl}
+use Rattle.cic_rules.specs.Contexts.{type_of_variable, value_of_variable}
+use Rattle.cic_rules.specs.Rows.{apply_all, instantiate}
+use Rattle.cic_rules.specs.Environments.{place_in, type_of_global, body_of_global, decl_at, IsScopedDecl, IsEnvironment}
+use Rattle.cic_rules.specs.Derive.{WfContext, HasType}
 use Rattle.cic_rules.specs.Reduce.{whnf_at}
 use Rattle.cic_rules.specs.Convert.{conv_at}
-use Rattle.cic_rules.specs.Infer.{InferredSort, sorted, infer_at, sort_of_at}
-use Rattle.cic_rules.specs.Inductive.{RowSorted, row_at}
+use Rattle.cic_rules.specs.Infer.{inferred_sort, infer_at, sort_of_at, check_at}
+use Rattle.cic_rules.specs.Inductive.{row_at}
 use Rattle.cic_rules.specs.Declare.{declare_at}
-use Rattle.cic_rules.specs.Runs.{Ran, done, then_do}
+use Rattle.cic_rules.specs.Runs.{Ran, Run, ◌>>=◌, pure, Turn, Final, GoOn}
 use Rattle.cic_rules.specs.Grounded.{used_at, is_assumption, axioms, Reaches}
 
 -- the second list has each name of the first
@@ -23,9 +31,9 @@ HasAll used all = (c : ℕ) → IsTrue (has used c) → IsTrue (has all c)
 
 -- what is derived over some names is derived over every list that has them
 pub record NamesMayGrow : Type 0 where
-  pub formed : (env : List Slot) (used all : List ℕ) (ctx : List Hyp) → HasAll used all → IsFormed env used ctx → IsFormed env all ctx
-  pub derives : (env : List Slot) (used all : List ℕ) (ctx : List Hyp) (t a : Tree) → HasAll used all → Derives env used ctx t a →
-      Derives env all ctx t a
+  pub formed : (env : List Slot) (used all : List ℕ) (ctx : List Hyp) → HasAll used all → WfContext env used ctx → WfContext env all ctx
+  pub derives : (env : List Slot) (used all : List ℕ) (ctx : List Hyp) (t a : Tree) → HasAll used all → HasType env used ctx t a →
+      HasType env all ctx t a
 
 -- the axioms of an entry ascend, each once
 abbrev pub AxiomsAscend : Type 0
@@ -45,13 +53,13 @@ AxiomsAreReached = (env : List Slot) → UsesBefore env → (place q : ℕ) →
     IsTrue (has (axioms env place) q) ↔ ((IsTrue (is_assumption env q)) × Reaches env place q)
 
 -- the sort of a row of products, without the sorts of its domains
-abbrev pub domains_forgotten : RowSorted → ℕ → Ran InferredSort
-domains_forgotten r left = done (sorted r.sort r.used) left
+abbrev pub without_domains : RowSorts → Run InferredSort
+without_domains r = pure (inferred_sort r.sort r.used)
 
 -- a row of products is sorted as each type is: by the same answer, with the same names and for the same units
 abbrev pub RowsAreSorted : Type 0
 RowsAreSorted = (env : List Slot) (calls : ℕ) (ctx : List Hyp) (t : Tree) (left : ℕ) →
-    then_do (row_at env calls ctx t left) domains_forgotten ≡ sort_of_at env calls ctx t left
+    (row_at env calls ctx t >>= without_domains) left ≡ sort_of_at env calls ctx t left
 
 -- a run with m units beside the same run with n of them, which are not fewer: both give one answer for as many units, or m are too
 -- few, and the run with n spends more than m
@@ -59,10 +67,11 @@ pub data IsUnderLimit {A : Type 0} (m n : ℕ) (low high : Ran A) : Type 0 where
   SameAnswer : low.answer ≡ high.answer → low.left + n ≡ high.left + m → IsUnderLimit m n low high
   TooFew : low.answer ≡ Err (Out StepLimit) → high.left + m < n → IsUnderLimit m n low high
 
--- the law of fuel: no run leaves more units than it had, and what it does with fewer
-pub record KeepsLawOfFuel {A : Type 0} (run : ℕ → Ran A) : Type 0 where
+-- the law of fuel: no run leaves more units than it had, and what it does with fewer; one that ends for want of units has none left
+pub record KeepsLawOfFuel {A : Type 0} (run : Run A) : Type 0 where
   pub falls : (n : ℕ) → (run n).left ≤ n
   pub lower : (m n : ℕ) → m ≤ n → IsUnderLimit m n (run m) (run n)
+  pub empty : (n : ℕ) → (run n).answer ≡ Err (Out StepLimit) → (run n).left ≡ 0
 
 abbrev pub FuelOfReduction : Type 0
 FuelOfReduction = (env : List Slot) (delta : Bool) (calls : ℕ) (ctx : List Hyp) (t : Tree) → KeepsLawOfFuel (whnf_at env delta calls ctx t)
@@ -73,5 +82,61 @@ FuelOfConversion = (env : List Slot) (calls : ℕ) (ctx : List Hyp) (mode : Mode
 abbrev pub FuelOfInference : Type 0
 FuelOfInference = (env : List Slot) (calls : ℕ) (ctx : List Hyp) (t : Tree) → KeepsLawOfFuel (infer_at env calls ctx t)
 
+abbrev pub FuelOfSorts : Type 0
+FuelOfSorts = (env : List Slot) (calls : ℕ) (ctx : List Hyp) (a : Tree) → KeepsLawOfFuel (sort_of_at env calls ctx a)
+
+abbrev pub FuelOfChecks : Type 0
+FuelOfChecks = (env : List Slot) (calls : ℕ) (ctx : List Hyp) (t wanted : Tree) → KeepsLawOfFuel (check_at env calls ctx t wanted)
+
 abbrev pub FuelOfDeclarations : Type 0
 FuelOfDeclarations = (env : List Slot) (calls : ℕ) (d : Decl) → KeepsLawOfFuel (declare_at env calls d)
+
+-- each value of a run is such
+pub record Tells {A : Type 0} (run : Run A) (P : A → Type 0) : Type 0 where
+  pub tells : (left : ℕ) (x : A) → (run left).answer ≡ Ok x → P x
+
+-- a turn of a loop: what it ends with, and what it goes on with
+abbrev pub Turned : {S A : Type 0} → (S → Type 0) → (A → Type 0) → Turn S A → Type 0
+Turned P Q (Final x) = Q x
+Turned P Q (GoOn s) = P s
+
+-- weak head reduction keeps a term in scope
+abbrev pub ScopeOfReduction : Type 0
+ScopeOfReduction = (env : List Slot) → IsEnvironment env → (delta : Bool) (calls : ℕ) (ctx : List Hyp) → IsScopedContext (length env) ctx →
+    (t : Tree) → IsScoped (length ctx) (length env) t → Tells (whnf_at env delta calls ctx t) (λ u. IsScoped (length ctx) (length env) u)
+
+-- a term for which a type is found is in scope, and so is its type; the names used are of the environment, and each global of the term is one
+abbrev pub ScopeOfInference : Type 0
+ScopeOfInference = (env : List Slot) → IsEnvironment env → (calls : ℕ) (ctx : List Hyp) → IsScopedContext (length env) ctx →
+    (t : Tree) → Tells (infer_at env calls ctx t) (IsInferredIn env ctx t)
+
+-- what an environment tells is in scope everywhere: types, bodies and declarations
+pub record ScopeOfGlobals : Type 0 where
+  pub types : (env : List Slot) → IsEnvironment env → (vars c : ℕ) (t : Tree) → type_of_global env c ≡ Some t → IsScoped vars (length env) t
+  pub there : (env : List Slot) → IsEnvironment env → (c : ℕ) (t : Tree) → type_of_global env c ≡ Some t → c < length env
+  pub bodies : (env : List Slot) → IsEnvironment env → (vars c : ℕ) (t : Tree) → body_of_global env c ≡ Some t → IsScoped vars (length env) t
+  pub decls : (env : List Slot) → IsEnvironment env → (place : ℕ) (d : InductiveDecl) → decl_at env place ≡ Some d → IsScopedDecl (length env) d
+
+-- and what a context tells
+pub record ScopeOfContexts : Type 0 where
+  pub types : (globals : ℕ) (ctx : List Hyp) (i : ℕ) (t : Tree) → IsScopedContext globals ctx → type_of_variable ctx i ≡ Some t →
+      IsScoped (length ctx) globals t
+  pub there : (ctx : List Hyp) (i : ℕ) (t : Tree) → type_of_variable ctx i ≡ Some t → i < length ctx
+  pub values : (globals : ℕ) (ctx : List Hyp) (i : ℕ) (t : Tree) → IsScopedContext globals ctx → value_of_variable ctx i ≡ Some t →
+      IsScoped (length ctx) globals t
+
+-- what keeps terms in scope
+pub record ScopeOfTerms : Type 0 where
+  pub more : (vars wider globals larger : ℕ) (t : Tree) → vars ≤ wider → globals ≤ larger → IsScoped vars globals t → IsScoped wider larger t
+  pub free : (vars globals : ℕ) (t : Tree) → IsScoped vars globals t → free_bound t ≤ vars
+  pub lift : (vars wider globals by from : ℕ) (t : Tree) → wider ≡ vars + by → IsScoped vars globals t → IsScoped wider globals (lift_of t by from)
+  pub subst : (vars wider globals at : ℕ) (t v : Tree) → wider ≡ suc vars → at ≤ vars → IsScoped wider globals t → IsScoped vars globals v →
+      IsScoped vars globals (subst_of t v at)
+  pub instantiate : (vars globals count : ℕ) (values : List Tree) (t : Tree) → count ≡ length values → IsScoped count globals t →
+      AreScoped vars globals values → IsScoped vars globals (instantiate values t)
+  pub apply_all : (vars globals : ℕ) (f : Tree) (args : List Tree) → IsScoped vars globals f → AreScoped vars globals args →
+      IsScoped vars globals (apply_all f args)
+
+-- a name that is found is that of a global
+abbrev pub FoundPlacesAreThere : Type 0
+FoundPlacesAreThere = (env : List Slot) (name : List ℕ) (place : ℕ) → place_in env name ≡ Some place → place < length env

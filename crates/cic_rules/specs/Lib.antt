@@ -1,9 +1,10 @@
-pub mod Answers
 pub mod Contexts
+pub mod Scopes
 pub mod Environments
 pub mod Names
 pub mod Fuel
 pub mod Runs
+pub mod Steps
 pub mod Rows
 pub mod Families
 pub mod Reduce

@@ -2,8 +2,8 @@
 use Rattle.std.specs.Prelude.{ℕ, zero, suc, ◌+◌, ◌-◌, nat_lt, List, [], ◌∷◌, ◌++◌, length, Bool, true, false, ◌&&◌, Option, Some, None, if◌then◌else◌, slice_get}
 use Rattle.core_term.specs.Tree.{Tree, Var, Sorted, Constant, Prod, Lam, LetIn, App, same_tree}
 use Rattle.core_term.specs.Places.{lift_of}
-use Rattle.cic_rules.specs.declared.context.Hyp.{Hyp}
-use Rattle.cic_rules.specs.Environments.{has, globals_of}
+use Rattle.cic_rules.specs.Scopes.{has}
+use Rattle.cic_rules.specs.Environments.{globals_of}
 
 -- what a term applies, and to which arguments, the first first
 abbrev pub head_of : Tree → Tree
@@ -27,11 +27,6 @@ count_products t = 0
 abbrev pub end_of_products : Tree → Tree
 end_of_products (Prod n a b) = end_of_products b
 end_of_products t = t
-
--- the products over hypotheses, oldest first
-abbrev pub products_over : List Hyp → Tree → Tree
-products_over [] t = t
-products_over (h ∷ hs) t = Prod h.name h.ty (products_over hs t)
 
 -- the global stands in the term
 abbrev pub mentions : ℕ → Tree → Bool
@@ -64,7 +59,7 @@ abbrev pub variables_of : ℕ → List Tree
 variables_of zero = []
 variables_of (suc n) = Var n ∷ variables_of n
 
-abbrev instantiated_variable : Option Tree → ℕ → ℕ → ℕ → Tree
+abbrev pub instantiated_variable : Option Tree → ℕ → ℕ → ℕ → Tree
 instantiated_variable None i count binders = Var (i - count)
 instantiated_variable (Some v) i count binders = lift_of v binders 0
 

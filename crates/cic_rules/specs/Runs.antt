@@ -1,7 +1,8 @@
--- Runs that are paid with units: each definition of a judgement is put together from these.
-use Rattle.std.specs.Prelude.{ℕ, zero, suc, ◌-◌, nat_le, Result, Ok, Err, if◌then◌else◌}
+-- Runs that are paid with units, and the steps that each definition of a judgement is put together from.
+use Rattle.std.specs.Prelude.{ℕ, zero, suc, ◌-◌, nat_le, List, [], ◌∷◌, Bool, Option, Some, None, Result, Ok, Err, if◌then◌else◌}
 use Rattle.base_core.specs.declared.refusals.Stop.{Stop}
 use Rattle.base_core.specs.declared.refusals.Stop.TheVariants.{Refused, Out}
+use Rattle.base_core.specs.declared.refusals.Place.{Place}
 use Rattle.base_core.specs.declared.refusals.Place.TheVariants.{Whole}
 use Rattle.base_core.specs.declared.refusals.Limit.{Limit}
 use Rattle.base_core.specs.declared.refusals.Limit.TheVariants.{StepLimit, SizeLimit}
@@ -12,35 +13,64 @@ pub record Ran (A : Type 0) : Type 0 where
   pub answer : Result A Stop
   pub left : ℕ
 
--- a run that answers at once, and spends nothing
-abbrev pub ended : {A : Type 0} → Result A Stop → ℕ → Ran A
-ended answer left = record { answer = answer; left = left }
+-- a run has so many units to begin with
+abbrev pub Run : Type 0 → Type 0
+Run A = ℕ → Ran A
 
-abbrev pub done : {A : Type 0} → A → ℕ → Ran A
-done x left = ended (Ok x) left
+-- an answer at once, which costs nothing
+abbrev pub give : {A : Type 0} → Result A Stop → Run A
+give answer = λ left. record { answer = answer; left = left }
 
-abbrev pub out : {A : Type 0} → Limit → ℕ → Ran A
-out limit left = ended (Err (Out limit)) left
+abbrev pub pure : {A : Type 0} → A → Run A
+pure x = give (Ok x)
 
--- a refusal, which stands at the whole sentence
-abbrev pub refused : {A : Type 0} → ℕ → ℕ → Ran A
-refused code left = ended (Err (Refused (record { code = code; place = Whole }))) left
+abbrev pub out_of : {A : Type 0} → Limit → Run A
+out_of limit = give (Err (Out limit))
 
--- so many units, and then the rest: a charge that is more than what is left spends all
-abbrev pub charge : {A : Type 0} → ℕ → (ℕ → Ran A) → ℕ → Ran A
-charge units rest left = if nat_le units left then rest (left - units) else out StepLimit 0
+-- a refusal with its code, at a place of the sentence, or at the whole of it
+abbrev pub refuse_at : {A : Type 0} → ℕ → Place → Run A
+refuse_at code place = give (Err (Refused (record { code = code; place = place })))
 
-abbrev pub with_answer : {A B : Type 0} → Result A Stop → (A → ℕ → Ran B) → ℕ → Ran B
-with_answer (Ok x) rest left = rest x left
-with_answer (Err stop) rest left = ended (Err stop) left
+abbrev pub refuse : {A : Type 0} → ℕ → Run A
+refuse code = refuse_at code Whole
+
+abbrev pub and_then : {A B : Type 0} → Result A Stop → (A → Run B) → Run B
+and_then (Ok x) rest = rest x
+and_then (Err stop) rest = give (Err stop)
 
 -- a run, and where it has a value the rest with it
-abbrev pub then_do : {A B : Type 0} → Ran A → (A → ℕ → Ran B) → Ran B
-then_do ran rest = with_answer ran.answer rest ran.left
+infixl 10 ◌>>=◌
+abbrev pub ◌>>=◌ : {A B : Type 0} → Run A → (A → Run B) → Run B
+run >>= rest = λ left. and_then (run left).answer rest (run left).left
 
--- a term that was made, where it is not too large
-abbrev pub made : {A : Type 0} → Tree → (ℕ → Ran A) → ℕ → Ran A
-made t rest left = if is_small t then rest left else out SizeLimit left
+-- a step that has no value of its own, and the rest
+infixl 10 ◌>>◌
+abbrev pub ◌>>◌ : {A : Type 0} → Run (Unit {0}) → Run A → Run A
+step >> rest = λ left. and_then (step left).answer (λ _. rest) (step left).left
+
+-- so many units: a charge that is more than what is left takes all
+abbrev pub spend : ℕ → Run (Unit {0})
+spend units = λ left. if nat_le units left then pure tt (left - units) else out_of StepLimit 0
+
+-- a term that was made must not be too large
+abbrev pub check_size : Tree → Run (Unit {0})
+check_size t = if is_small t then pure tt else out_of SizeLimit
+
+-- this must hold, or must not, else it is refused
+abbrev pub require : Bool → ℕ → Run (Unit {0})
+require test code = if test then pure tt else refuse code
+
+abbrev pub forbid : Bool → ℕ → Run (Unit {0})
+forbid test code = if test then refuse code else pure tt
+
+-- a value that must be there
+abbrev pub some_at : {A : Type 0} → ℕ → Place → Option A → Run A
+some_at code place None = refuse_at code place
+some_at code place (Some x) = pure x
+
+abbrev pub some_or : {A : Type 0} → ℕ → Option A → Run A
+some_or code None = refuse code
+some_or code (Some x) = pure x
 
 -- how a turn of a loop ends
 pub data Turn (S A : Type 0) : Type 0 where
@@ -48,15 +78,15 @@ pub data Turn (S A : Type 0) : Type 0 where
   GoOn : S → Turn S A
 
 -- what follows a turn: nothing, or the next one
-abbrev pub next_turn : {S A : Type 0} → (S → ℕ → Ran A) → Turn S A → ℕ → Ran A
-next_turn go_on (Final x) left = done x left
-next_turn go_on (GoOn s) left = go_on s left
+abbrev pub next_turn : {S A : Type 0} → (S → Run A) → Turn S A → Run A
+next_turn loop (Final x) = pure x
+next_turn loop (GoOn s) = loop s
 
 -- at most so many turns; the bound is never met where each turn that goes on takes a unit and there are more turns than units
-unfoldable pub repeat : {S A : Type 0} → (S → ℕ → Ran (Turn S A)) → ℕ → S → ℕ → Ran A
-repeat turn zero s left = out StepLimit left
-repeat turn (suc turns) s left = then_do (turn s left) (next_turn (repeat turn turns))
+unfoldable pub repeat : {S A : Type 0} → (S → Run (Turn S A)) → ℕ → S → Run A
+repeat turn zero s = out_of StepLimit
+repeat turn (suc turns) s = turn s >>= next_turn (repeat turn turns)
 
 -- turns until one is final
-abbrev pub runs : {S A : Type 0} → (S → ℕ → Ran (Turn S A)) → S → ℕ → Ran A
-runs turn s left = repeat turn (suc left) s left
+abbrev pub runs : {S A : Type 0} → (S → Run (Turn S A)) → S → Run A
+runs turn s = λ left. repeat turn (suc left) s left

@@ -1,6 +1,6 @@
 ghost use Rattle.std.specs.Prelude.{◌≡◌, ◌^◌, ◌≤◌, ◌<◌, [], length, slice_get, IfOk};
 ghost use Rattle.std.specs.Option.{option_copied};
-ghost use Rattle.cic_rules.specs.Answers.{Gives};
+ghost use Rattle.base_core.specs.Answers.{Gives};
 ghost use Rattle.cic_rules.specs.Contexts.{extended, renamed, IsContext, IsHypAt};
 
 use base_core::{Limit, NoMem, Stop, Text};
@@ -102,10 +102,8 @@ impl Context {
         if self.hyps.len() >= LEN_LIMIT {
             return Err(Stop::Out(Limit::SizeLimit));
         }
-        match self.hyps.with_first(alloc, h) {
-            Ok(hyps) => Ok(Context { hyps }),
-            Err(NoMem) => Err(Stop::NoMem),
-        }
+        let hyps = self.hyps.with_first(alloc, h)?;
+        Ok(Context { hyps })
     }
 }
 

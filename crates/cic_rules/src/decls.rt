@@ -1,7 +1,8 @@
-ghost use Rattle.std.specs.Prelude.{◌≡◌, ◌++◌, [], ◌∷◌, OnOk};
+ghost use Rattle.std.specs.Prelude.{◌≡◌, ◌++◌, [], ◌∷◌, None, OnOk};
+ghost use Rattle.cic_rules.specs.Contexts.{AreParams};
 
 use crate::context::Hyp;
-use base_core::{NoMem, Text};
+use base_core::{List, NoMem, Text};
 use core_term::Term;
 use std::alloc::Global;
 use std::marker::Model;
@@ -32,7 +33,7 @@ pub enum Decl {
 #[derive(Drop)]
 pub struct InductiveDecl {
     pub name: Text,
-    /// Oldest first, without values.
+    /// Oldest first.
     pub params: ContextList,
     pub arity: Term,
     pub ctors: CtorList,
@@ -45,7 +46,7 @@ pub struct Ctor {
     pub ty: Term,
 }
 
-/// A list of hypotheses, oldest first.
+/// The parameters of an inductive type, oldest first: hypotheses without definitions.
 #[derive(Drop)]
 pub struct ContextList {
     items: Vec<Hyp>,
@@ -62,6 +63,10 @@ impl Model for ContextList {
     ghost coded = { coded_list hyp.the_row.coded };
 
     ghost view = { λ a. a.items.items };
+
+    ghost use Rattle.cic_rules.specs.Contexts.{AreParams};
+
+    ghost invariant = { λ a. AreParams a.items.items };
 }
 
 impl ContextList {
@@ -73,7 +78,9 @@ impl ContextList {
         }
     }
 
+    #[tactic(auto, using(crate::proofs::ContextLaws::params_last))]
     pub fn push(&mut self, item: Hyp) -> Result<(), NoMem>
+        requires { item.value ≡ None }
         ensures { OnOk result (self.new ≡ self.old ++ item ∷ []) }
     {
         self.items.push(item)?;
@@ -81,50 +88,12 @@ impl ContextList {
     }
 
     pub fn as_slice(&self) -> &[Hyp]
-        ensures { result.now ≡ self.now }
+        ensures items { result.now ≡ self.now }
+        ensures params { AreParams self.now }
     {
         self.items.as_slice()
     }
 }
 
 /// A list of constructors.
-#[derive(Drop)]
-pub struct CtorList {
-    items: Vec<Ctor>,
-}
-
-impl Model for CtorList {
-    ghost use Rattle.std.specs.Prelude.{List};
-    ghost use Rattle.cic_rules.specs.declared.decls.Ctor.{Ctor};
-    ghost use Rattle.std.specs.Coded.{coded_list};
-    ghost use Rattle.cic_rules.specs.contracts.decls.Ctor as ctor;
-
-    ghost Value = { List Ctor };
-
-    ghost coded = { coded_list ctor.the_row.coded };
-
-    ghost view = { λ a. a.items.items };
-}
-
-impl CtorList {
-    pub fn new(alloc: Global) -> CtorList
-        ensures { result ≡ [] }
-    {
-        CtorList {
-            items: Vec::new(alloc),
-        }
-    }
-
-    pub fn push(&mut self, item: Ctor) -> Result<(), NoMem>
-        ensures { OnOk result (self.new ≡ self.old ++ item ∷ []) }
-    {
-        self.items.push(item)?;
-        Ok(())
-    }
-
-    pub fn as_slice(&self) -> &[Ctor]
-        ensures { result.now ≡ self.now }
-    {
-        self.items.as_slice()
-    }
-}
+pub type CtorList = List<Ctor>;

@@ -1,9 +1,9 @@
-ghost use Rattle.std.specs.Prelude.{◌≡◌, ◌+◌, ◌^◌, ◌≤◌, ◌<◌, [], ◌∷◌, ◌++◌, length, slice_get, Some, IfOk};
+ghost use Rattle.std.specs.Prelude.{◌≡◌, ◌+◌, ◌^◌, ◌≤◌, ◌<◌, [], ◌∷◌, ◌++◌, length, slice_get, Some, IfOk, IfSome};
 ghost use Rattle.std.specs.Option.{option_copied};
 ghost use Rattle.std.specs.Cmp.Lexicographic.{slice_cmp};
 ghost use Rattle.std.specs.Ordering.{nat_cmp};
 ghost use Rattle.shared_map.specs.Entries.{IsInOrder};
-ghost use Rattle.cic_rules.specs.Answers.{Gives};
+ghost use Rattle.base_core.specs.Answers.{Gives};
 ghost use Rattle.cic_rules.specs.Names.{rank_of, stands_before};
 ghost use Rattle.cic_rules.specs.Environments.{entry_at, decl_at, place_in, entered, all_entered, slotted, IsEnvironment, IsNew, AreNew, IsSlotAt, AreSlots, MayEnter};
 ghost use Rattle.cic_rules.specs.EnterFamily.{MayEnterFamily};
@@ -95,7 +95,15 @@ impl GlobalEnv {
 
     /// The place of the global with this name, in a time that is logarithmic in the number of
     /// globals.
+    #[tactic(auto, using(crate::proofs::PlaceLaws::place_below))]
     pub fn place_of(&self, name: &Text) -> Option<u32>
+        ensures place { result ≡ place_in self.now name.now }
+        ensures within { IfSome result (λ place. place < length self.now) }
+    {
+        self.find(name)
+    }
+
+    fn find(&self, name: &Text) -> Option<u32>
         ensures { result ≡ place_in self.now name.now }
     {
         let found = self.index.get(rank(&self.index, name))?;
@@ -128,10 +136,8 @@ impl GlobalEnv {
             entry: e,
             decl: None,
         };
-        match self.with_slot(alloc, slot) {
-            Ok(env) => Ok(env),
-            Err(NoMem) => Err(Stop::NoMem),
-        }
+        let env = self.with_slot(alloc, slot)?;
+        Ok(env)
     }
 
     /// The environment with an inductive type, its constructors and its eliminators, unless there
@@ -149,10 +155,8 @@ impl GlobalEnv {
         if entries.len() > LEN_LIMIT - self.slots.len() {
             return Err(Stop::Out(Limit::SizeLimit));
         }
-        match self.with_slots(alloc, Some(d), entries) {
-            Ok(env) => Ok(env),
-            Err(NoMem) => Err(Stop::NoMem),
-        }
+        let env = self.with_slots(alloc, Some(d), entries)?;
+        Ok(env)
     }
 
     fn with_slots(

@@ -1,5 +1,5 @@
 ghost use Rattle.std.specs.Prelude.{◌≡◌, ◌-◌, ◌≤◌, ◌<◌, ◌↔◌, IsTrue};
-ghost use Rattle.cic_rules.specs.Fuel.{full, nested, left, IsSpentOf, IsFuel, NESTING_LIMIT};
+ghost use Rattle.cic_rules.specs.Fuel.{full, nested, left, calls_left, IsSpentOf, IsFuel, NESTING_LIMIT};
 
 use std::marker::Model;
 
@@ -58,6 +58,13 @@ impl Fuel {
         ensures within { IsFuel self.now }
     {
         self.spent
+    }
+
+    /// How many more judgements may be begun inside those under way.
+    pub fn calls_left(&self) -> u32
+        ensures { result ≡ calls_left self.now }
+    {
+        NESTING_LIMIT - self.nesting
     }
 
     /// Begins a judgement inside those under way. Where the most that are allowed are under way,

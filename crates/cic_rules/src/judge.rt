@@ -1,17 +1,14 @@
-ghost use Rattle.std.specs.Prelude.{true};
-ghost use Rattle.cic_rules.specs.Fuel.{left, calls_left, IsSpentOf};
-ghost use Rattle.cic_rules.specs.Reduce.{whnf_at};
-ghost use Rattle.cic_rules.specs.Convert.{conv_at};
-ghost use Rattle.cic_rules.specs.Infer.{infer_at};
-ghost use Rattle.cic_rules.specs.Declare.{declare_at};
-ghost use Rattle.cic_rules.specs.Judges.{MayJudge, IsTermIn, IsPlain, IsOwnDecl, Meets, MeetsAnswer, IsNeverRefused};
+ghost use Rattle.std.specs.Prelude.{length, IfOk};
+ghost use Rattle.cic_rules.specs.Fuel.{left, IsSpentOf};
+ghost use Rattle.cic_rules.specs.Scopes.{AreNames, UsesOnly};
+ghost use Rattle.cic_rules.specs.Judges.{MayJudge, IsTermIn, Meets, MeetsAnswer, IsNeverRefused, whnf_with, conv_with, infer_with, declare_with};
 
 use crate::context::Context;
 use crate::decls::Decl;
 use crate::env::GlobalEnv;
 use crate::fuel::Fuel;
 use base_core::{Limit, NoMem, NumberList, Stop};
-use core_term::Term;
+use core_term::{Sort, Term};
 use std::alloc::Global;
 
 /// How two types are compared.
@@ -39,11 +36,27 @@ pub struct Inferred {
     pub used: NumberList,
 }
 
+/// The sort of a type, and the places of the globals that were used to find it, ascending.
+#[derive(Drop)]
+pub struct InferredSort {
+    pub sort: Sort,
+    pub used: NumberList,
+}
+
+/// The two sides of a function's type, and the places of the globals that were used to find it,
+/// ascending.
+#[derive(Drop)]
+pub struct Arrow {
+    pub domain: Term,
+    pub codomain: Term,
+    pub used: NumberList,
+}
+
 /// The judgements on terms. Each takes units from the fuel, also where it ends with a refusal or a
-/// limit. Environments are plain so far: no entry is an inductive type, a constructor or an
-/// eliminator.
+/// limit.
 pub trait Judge {
-    /// The term by weak head reduction: its head is reduced until no rule applies.
+    /// The term by weak head reduction: its head is reduced until no rule applies. It stays in
+    /// scope.
     fn whnf(
         &self,
         alloc: Global,
@@ -54,8 +67,9 @@ pub trait Judge {
     ) -> Result<Term, Stop>
         requires judged { MayJudge env.now ctx.now }
         requires term { IsTermIn env.now ctx.now t.now }
-        ensures answer { Meets result (left fuel.new) (whnf_at env.now true (calls_left fuel.old) ctx.now t.now (left fuel.old)) }
+        ensures answer { Meets result (left fuel.new) (whnf_with env.now ctx.now t.now fuel.old) }
         ensures never_refused { IsNeverRefused result }
+        ensures scoped { IfOk result (λ u. IsTermIn env.now ctx.now u) }
         ensures kept { IsSpentOf fuel.old fuel.new };
 
     /// Whether two terms are the same by the rules of reduction, or the first is below the second.
@@ -72,12 +86,14 @@ pub trait Judge {
         requires judged { MayJudge env.now ctx.now }
         requires first { IsTermIn env.now ctx.now t.now }
         requires second { IsTermIn env.now ctx.now u.now }
-        ensures answer { MeetsAnswer result (left fuel.new) (conv_at env.now (calls_left fuel.old) ctx.now mode t.now u.now (left fuel.old)) }
+        ensures answer { MeetsAnswer result (left fuel.new) (conv_with env.now ctx.now mode t.now u.now fuel.old) }
         ensures kept { IsSpentOf fuel.old fuel.new };
 
     /// The type of a term. Refused with 20 where a variable or a global is unbound, 21 where what
     /// is applied is no function, 22 where a type is not the one that is wanted, 23 where what
-    /// should be a type is none, and 24 where a sort would be above the last level.
+    /// should be a type is none, and 24 where a sort would be above the last level. A term that
+    /// has a type is in scope, as its type is; the names used ascend, stand in the environment, and
+    /// have each global of the term.
     fn infer(
         &self,
         alloc: Global,
@@ -87,14 +103,19 @@ pub trait Judge {
         fuel: &mut Fuel,
     ) -> Result<Inferred, Stop>
         requires judged { MayJudge env.now ctx.now }
-        ensures answer { Meets result (left fuel.new) (infer_at env.now (calls_left fuel.old) ctx.now t.now (left fuel.old)) }
+        ensures answer { Meets result (left fuel.new) (infer_with env.now ctx.now t.now fuel.old) }
+        ensures term { IfOk result (λ i. IsTermIn env.now ctx.now t.now) }
+        ensures scoped { IfOk result (λ i. IsTermIn env.now ctx.now i.ty) }
+        ensures names { IfOk result (λ i. AreNames (length env.now) i.used) }
+        ensures uses { IfOk result (λ i. UsesOnly i.used t.now) }
         ensures kept { IsSpentOf fuel.old fuel.new };
 }
 
 /// A judge that declares globals.
 pub trait Declares: Judge {
-    /// The environment with what is declared. Refused with 25 where the name is taken, and with
-    /// the refusals of `infer`; out of size where the environment is full.
+    /// The environment with what is declared. Refused with 25 where a name is taken, with 30 to 34
+    /// where an inductive type breaks a rule, and with the refusals of `infer`; out of size where
+    /// the environment is full.
     fn declare(
         &self,
         alloc: Global,
@@ -102,8 +123,6 @@ pub trait Declares: Judge {
         decl: &Decl,
         fuel: &mut Fuel,
     ) -> Result<GlobalEnv, Stop>
-        requires plain { IsPlain env.now }
-        requires own { IsOwnDecl decl.now }
-        ensures answer { Meets result (left fuel.new) (declare_at env.now (calls_left fuel.old) decl.now (left fuel.old)) }
+        ensures answer { Meets result (left fuel.new) (declare_with env.now decl.now fuel.old) }
         ensures kept { IsSpentOf fuel.old fuel.new };
 }

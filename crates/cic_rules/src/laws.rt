@@ -1,7 +1,7 @@
 //! Laws of the definitions that the other clauses cite, for the proofs above this crate. Each
 //! function does nothing.
 
-ghost use Rattle.cic_rules.specs.Laws.{NamesMayGrow, AxiomsAscend, EntriesUseBefore, AxiomsAreReached, RowsAreSorted, FuelOfReduction, FuelOfConversion, FuelOfInference, FuelOfDeclarations};
+ghost use Rattle.cic_rules.specs.Laws.{NamesMayGrow, AxiomsAscend, EntriesUseBefore, AxiomsAreReached, RowsAreSorted, FuelOfReduction, FuelOfConversion, FuelOfInference, FuelOfSorts, FuelOfChecks, FuelOfDeclarations, ScopeOfReduction, ScopeOfInference, FoundPlacesAreThere, ScopeOfGlobals, ScopeOfContexts, ScopeOfTerms};
 
 /// What is derived over some names is derived over every list that has them.
 pub fn law_of_names()
@@ -23,10 +23,24 @@ pub fn law_of_rows()
 {}
 
 /// Under a lower limit a judgement answers the same for as many units, or it ends at the limit of
-/// units, and under the higher one it spends more than the lower.
+/// units, and under the higher one it spends more than the lower. One that ends at the limit of
+/// units has none left.
 pub fn law_of_fuel()
     ensures reduction { FuelOfReduction }
     ensures conversion { FuelOfConversion }
     ensures inference { FuelOfInference }
+    ensures sorts { FuelOfSorts }
+    ensures checks { FuelOfChecks }
     ensures declarations { FuelOfDeclarations }
+{}
+
+/// What stands in scope: reduction keeps it, inference tells it, and a name that is found is that
+/// of a global.
+pub fn law_of_scopes()
+    ensures reduction { ScopeOfReduction }
+    ensures inference { ScopeOfInference }
+    ensures found { FoundPlacesAreThere }
+    ensures globals { ScopeOfGlobals }
+    ensures contexts { ScopeOfContexts }
+    ensures terms { ScopeOfTerms }
 {}

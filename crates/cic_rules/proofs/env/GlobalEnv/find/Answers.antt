@@ -2,7 +2,7 @@ use Rattle.std.proofs.Common.{arith}
 use Rattle.std.specs.Cmp.Lexicographic.{slice_cmp, nat_list_cmp_total}
 use Rattle.std.specs.Ordering.{nat_cmp}
 use Rattle.cic_rules.proofs.IndexLaws.{look_rank}
-use Rattle.cic_rules.proofs.env.GlobalEnv.place_of.Goals as goal
+use Rattle.cic_rules.proofs.env.GlobalEnv.find.Goals as goal
 
 pub returns-in_err-found : goal.returns-in_err-found
 returns-in_err-found c =
