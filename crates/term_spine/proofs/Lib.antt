@@ -1,0 +1,3 @@
+pub mod SpineFacts
+pub mod Instantiations
+pub mod Places
