@@ -1,18 +1,17 @@
 -- What contexts and environments hold is in scope.
-use Rattle.std.proofs.Common.{◌≡◌, ℕ, zero, suc, ◌+◌, ◌<◌, ◌≤◌, List, [], ◌∷◌, length, Bool, true, false, Option, Some, None, refl, ap, subst, arith}
+use Rattle.std.proofs.Common.{◌≡◌, ℕ, zero, suc, ◌+◌, ◌<◌, ◌≤◌, List, [], ◌∷◌, length, true, false, Option, Some, None, refl, subst, arith}
 use Rattle.std.specs.Prelude.{slice_get}
 use Rattle.core_term.specs.Tree.{Tree}
 use Rattle.core_term.specs.Places.{lift_of}
 use Rattle.cic_rules.specs.declared.context.Hyp.{Hyp}
 use Rattle.cic_rules.specs.declared.decls.Ctor.{Ctor}
 use Rattle.cic_rules.specs.declared.decls.InductiveDecl.{InductiveDecl}
-use Rattle.cic_rules.specs.declared.entries.Entry.{Entry}
 use Rattle.cic_rules.specs.declared.entries.EntryKind.{EntryKind}
 use Rattle.cic_rules.specs.declared.entries.EntryKind.TheVariants.{Assumed, Admitted, Defined, Inductive, Constructor, Eliminator}
 use Rattle.cic_rules.specs.declared.env.Slot.{Slot}
 use Rattle.cic_rules.specs.Laws.{ScopeOfGlobals, ScopeOfContexts}
 use Rattle.cic_rules.specs.Contexts.{products_over, lifted_type, lifted_value, lifted_if_any, type_of_variable, value_of_variable}
-use Rattle.cic_rules.specs.Environments.{slot_entry, entry_at, slot_decl, decl_at, entry_type, type_of_global, transparent, entry_body, body_of_global, terms_of, kind_terms, IsEntryAt, IsSlotAt, AreSlots, IsEnvironment, Covers, IsFamilyIfAny, IsScopedDecl, AreScopedCtors}
+use Rattle.cic_rules.specs.Environments.{slot_entry, slot_decl, decl_at, entry_type, type_of_global, transparent, entry_body, body_of_global, terms_of, kind_terms, IsSlotAt, AreSlots, IsEnvironment, Covers, IsFamilyIfAny, IsScopedDecl, AreScopedCtors}
 use Rattle.cic_rules.specs.Scopes.{IsScoped, AreScoped, IsScopedIfAny, IsScopedHyp, IsScopedContext}
 use Rattle.cic_rules.proofs.ScopeLaws.{scoped_more, scoped_lift}
 

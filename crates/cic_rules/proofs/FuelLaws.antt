@@ -15,7 +15,7 @@ use Rattle.cic_rules.specs.Environments.{all_entered, entered, own_slot}
 use Rattle.cic_rules.specs.Convert.{with_hyp}
 use Rattle.cic_rules.specs.Laws.{IsUnderLimit, SameAnswer, TooFew, KeepsLawOfFuel}
 use Rattle.cic_rules.specs.Runs.{Ran, Run, give, pure, out_of, refuse_at, refuse, and_then, ◌>>=◌, ◌>>◌, spend, check_size, require, forbid, some_at, some_or, Turn, Final, GoOn, next_turn, repeat, runs}
-use Rattle.cic_rules.specs.Steps.{Step, Halt, Refuses, TooLarge, answer_of, take_step}
+use Rattle.cic_rules.specs.Steps.{Step, Refuses, TooLarge, take_step}
 
 -- an answer that costs nothing, and that isn't want of units
 pub law_give : {A : Type 0} (answer : Result A Stop) → (answer ≡ Err (Out StepLimit) → ⊥) → KeepsLawOfFuel (give answer)

@@ -1,30 +1,25 @@
 -- The law of fuel for inference, the tests of an inductive type, and declarations.
-use Rattle.std.proofs.Common.{◌≡◌, ℕ, zero, suc, List, [], ◌∷◌, Bool, true, false, Option, Some, None, Result, Ok, Err}
-use Rattle.std.specs.Prelude.{if◌then◌else◌}
-use Rattle.base_core.specs.declared.refusals.Stop.{Stop}
-use Rattle.base_core.specs.declared.refusals.Stop.TheVariants.{Out}
-use Rattle.base_core.specs.declared.refusals.Limit.TheVariants.{SizeLimit, StepLimit}
+use Rattle.std.proofs.Common.{ℕ, zero, suc, List, [], ◌∷◌, Bool, true, Option, Some, None}
 use Rattle.core_term.specs.declared.sorts.Sort.{Sort}
 use Rattle.core_term.specs.Tree.{Tree, Var, Sorted, Constant, Prod, Lam, LetIn, App}
 use Rattle.cic_rules.specs.declared.context.Hyp.{Hyp}
 use Rattle.cic_rules.specs.declared.decls.Ctor.{Ctor}
 use Rattle.cic_rules.specs.declared.decls.Decl.TheVariants.{Assume, Define, Admit, Induct}
 use Rattle.cic_rules.specs.declared.decls.InductiveDecl.{InductiveDecl}
-use Rattle.cic_rules.specs.declared.entries.Entry.{Entry}
 use Rattle.cic_rules.specs.declared.entries.EntryKind.{EntryKind}
 use Rattle.cic_rules.specs.declared.env.Slot.{Slot}
 use Rattle.cic_rules.specs.declared.families.CheckedInductive.{CheckedInductive}
 use Rattle.cic_rules.specs.declared.judge.Inferred.{Inferred}
 use Rattle.cic_rules.specs.declared.judge.Mode.{Mode}
-use Rattle.cic_rules.specs.Runs.{Run, give, pure}
+use Rattle.cic_rules.specs.Runs.{Run, give}
 use Rattle.cic_rules.specs.Reduce.{whnf_at}
 use Rattle.cic_rules.specs.Convert.{conv_at}
-use Rattle.cic_rules.specs.Infer.{must_be_sort, as_sort, sort_of, must_be_arrow, as_arrow, check, infer_by, infer_at, sort_of_at, check_at}
+use Rattle.cic_rules.specs.Infer.{must_be_sort, as_sort, sort_of, must_be_arrow, as_arrow, check, infer_by, infer_at}
 use Rattle.cic_rules.specs.Eliminators.{family_entries}
 use Rattle.cic_rules.specs.Inductive.{row_at, open_params, rows_of, check_family, check_inductive_at}
-use Rattle.cic_rules.specs.Declare.{are_small, types_of, eliminators, enter, assume, define, declare_at}
+use Rattle.cic_rules.specs.Declare.{are_small, types_of, eliminators, assume, define, declare_at}
 use Rattle.cic_rules.specs.Laws.{KeepsLawOfFuel, FuelOfInference, FuelOfSorts, FuelOfChecks, FuelOfDeclarations}
-use Rattle.cic_rules.proofs.FuelLaws.{law_give, law_bind, law_step, law_require, law_pure, law_spend, if_room, if_room_is, fuel_laws}
+use Rattle.cic_rules.proofs.FuelLaws.{law_give, law_bind, law_step, law_require, law_pure, law_spend, if_room_is, fuel_laws}
 use Rattle.cic_rules.proofs.JudgeFuelLaws.{fuel_of_reduction, fuel_of_conversion}
 
 law_must_be_sort : (used : List ℕ) (t : Tree) → KeepsLawOfFuel (must_be_sort used t)

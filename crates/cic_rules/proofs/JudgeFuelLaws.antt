@@ -1,6 +1,6 @@
 -- The law of fuel for weak head reduction and conversion.
 use Rattle.std.specs.Prelude.{if◌then◌else◌}
-use Rattle.std.proofs.Common.{ℕ, zero, suc, ◌≤◌, ◌==◌, nat_lt, List, ◌∷◌, length, Bool, true, false, Option, Some, None, arith}
+use Rattle.std.proofs.Common.{ℕ, zero, suc, ◌≤◌, List, ◌∷◌, Bool, true, false, Option, Some, None, arith}
 use Rattle.core_term.specs.Tree.{Tree, Var, Sorted, Constant, Prod, Lam, LetIn}
 use Rattle.cic_rules.specs.declared.context.Hyp.{Hyp}
 use Rattle.cic_rules.specs.declared.env.Slot.{Slot}
@@ -10,9 +10,9 @@ use Rattle.cic_rules.specs.Contexts.{value_of_variable}
 use Rattle.cic_rules.specs.Environments.{body_of_global}
 use Rattle.cic_rules.specs.Rows.{head_of, arguments_of}
 use Rattle.cic_rules.specs.Families.{major_premise}
-use Rattle.cic_rules.specs.Runs.{Run, pure}
+use Rattle.cic_rules.specs.Runs.{Run}
 use Rattle.cic_rules.specs.Reduce.{Redex, Stuck, Reduces, OnMajor, unfolded, global_redex, redex_of, contract, contract_iota, reduce_redex, reduce_step, whnf_at}
-use Rattle.cic_rules.specs.Convert.{Blocker, Sides, blocker_by, blocker_at, unfold_left, unfold_right, unfold_both, unfold_later, delta_step, unblock, conv_all, conv_spines, conv_heads, conv_binders, conv_eta, conv_reduced, conv_step, compare, conv_at, is_neutral}
+use Rattle.cic_rules.specs.Convert.{Blocker, Sides, blocker_by, blocker_at, unfold_left, unfold_right, unfold_both, unfold_later, delta_step, unblock, conv_all, conv_spines, conv_heads, conv_binders, conv_eta, conv_reduced, conv_step, compare, conv_at}
 use Rattle.cic_rules.specs.Laws.{KeepsLawOfFuel, FuelOfReduction, FuelOfConversion}
 use Rattle.cic_rules.proofs.FuelLaws.{IsTurn, law_pure, law_bind, law_step, law_size, law_if, turn_spend, law_loop, fuel_laws, turn_laws}
 

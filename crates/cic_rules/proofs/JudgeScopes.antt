@@ -1,35 +1,35 @@
 -- Reduction keeps terms in scope, and inference tells that a term is in scope.
-use Rattle.std.proofs.Common.{◌≡◌, ℕ, zero, suc, ◌+◌, ◌<◌, ◌≤◌, List, [], ◌∷◌, length, Bool, true, false, Option, Some, None, refl, ap, subst, arith}
-use Rattle.std.specs.Prelude.{IsTrue, if◌then◌else◌, slice_get}
+use Rattle.std.proofs.Common.{◌≡◌, ℕ, zero, suc, List, [], ◌∷◌, length, Bool, true, false, Option, Some, None, Ok, refl, sym, ap, ◌∙◌, arith}
+use Rattle.std.specs.Prelude.{IsTrue, if◌then◌else◌}
 use Rattle.std.proofs.lemmas.Bool.Decides.{nat_tests}
 use Rattle.base_core.specs.declared.refusals.Stop.TheVariants.{Out}
 use Rattle.base_core.specs.declared.refusals.Limit.TheVariants.{DepthLimit}
-use Rattle.core_term.specs.declared.sorts.Sort.{Sort}
 use Rattle.core_term.specs.Sorts.{sort_of_product}
-use Rattle.core_term.specs.Tree.{Tree, Var, Sorted, Constant, Prod, Lam, LetIn, App, size_of, same_tree}
+use Rattle.core_term.specs.Tree.{Tree, Var, Sorted, Constant, Prod, Lam, LetIn, App, same_tree}
 use Rattle.core_term.specs.Places.{subst_of}
 use Rattle.cic_rules.specs.declared.context.Hyp.{Hyp}
 use Rattle.cic_rules.specs.declared.env.Slot.{Slot}
 use Rattle.cic_rules.specs.declared.judge.Mode.{Mode}
-use Rattle.cic_rules.specs.declared.judge.Mode.TheVariants.{Below}
 use Rattle.cic_rules.specs.declared.judge.Inferred.{Inferred}
-use Rattle.cic_rules.specs.declared.judge.InferredSort.{InferredSort}
 use Rattle.cic_rules.specs.declared.judge.Arrow.{Arrow}
 use Rattle.cic_rules.specs.Contexts.{plain_hyp, defined_hyp, type_of_variable, value_of_variable}
 use Rattle.cic_rules.specs.Environments.{body_of_global, type_of_global, IsEnvironment}
-use Rattle.cic_rules.specs.Rows.{head_of, arguments_of, apply_all}
+use Rattle.cic_rules.specs.Rows.{head_of, arguments_of}
 use Rattle.cic_rules.specs.Families.{Family, major_index, value_among, eliminator_of, major_premise, iota}
-use Rattle.cic_rules.specs.Scopes.{IsScoped, AreScoped, IsScopedIfAny, IsScopedContext, has, UsesOnly, AreNames, IsJudged}
-use Rattle.cic_rules.specs.Runs.{Run, pure, spend, check_size, ◌>>=◌, Turn, Final, GoOn}
+use Rattle.cic_rules.specs.Scopes.{IsScoped, AreScoped, IsScopedIfAny, IsScopedContext, has, AreNames, IsJudged}
+use Rattle.cic_rules.specs.Runs.{Ran, Run, and_then, spend, check_size, Final, GoOn}
 use Rattle.cic_rules.specs.Reduce.{Redex, Stuck, Reduces, OnMajor, unfolded, global_redex, redex_of, contract, contract_iota, reduce_redex, reduce_step, whnf_at}
 use Rattle.cic_rules.specs.Convert.{compare_cost, conv_at}
 use Rattle.cic_rules.specs.Infer.{union, type_of_sort, inferred, inferred_sort, arrow, must_be_sort, as_sort, sort_of, must_be_arrow, as_arrow, check, infer_by, infer_at}
-use Rattle.cic_rules.specs.Laws.{Tells, Turned, ScopeOfReduction, ScopeOfInference}
+use Rattle.cic_rules.specs.Laws.{Tells, Turned, ScopeOfReduction, ScopeOfInference, ScopeOfSorts, ScopeOfChecks, ScopeOfRows, without_domains}
 use Rattle.cic_rules.specs.Judges.{IsInferredIn}
 use Rattle.cic_rules.proofs.TellsLaws.{tells_pure, tells_stop, tells_bind, tells_step, tells_if, tells_require, tells_some, tells_within, tells_loop}
 use Rattle.cic_rules.proofs.ScopeLaws.{scoped_head, scoped_arguments, scoped_apply_all, scoped_get, scoped_subst}
 use Rattle.cic_rules.proofs.EnvironmentScopes.{variable_scoped, variable_within, value_scoped, global_scoped, global_within, body_scoped}
 use Rattle.cic_rules.proofs.IotaScopes.{scoped_iota}
+use Rattle.cic_rules.specs.declared.families.RowSorts.{RowSorts}
+use Rattle.cic_rules.specs.Inductive.{row_at}
+use Rattle.cic_rules.proofs.RowLaws.{rows_are_sorted}
 use Rattle.cic_rules.proofs.UsedLaws.{names_union, uses_first, uses_second}
 
 has_first : (c : ℕ) → IsTrue (has (c ∷ []) c)
@@ -281,3 +281,23 @@ infer_scoped env is (suc calls) ctx hyps t =
 
 pub scope_of_inference : ScopeOfInference
 scope_of_inference env is calls ctx hyps t = infer_scoped env is calls ctx hyps t
+
+pub scope_of_sorts : ScopeOfSorts
+scope_of_sorts env is calls ctx hyps a =
+    sort_tells env is (whnf_at env true calls) (conv_at env calls) (infer_at env calls)
+    (λ c h u k. scope_of_reduction env is true calls c h u k) (λ c h u. infer_scoped env is calls c h u) ctx hyps a
+
+pub scope_of_checks : ScopeOfChecks
+scope_of_checks env is calls ctx hyps t wanted =
+    check_tells env is (whnf_at env true calls) (conv_at env calls) (infer_at env calls)
+    (λ c h u k. scope_of_reduction env is true calls c h u k) (λ c h u. infer_scoped env is calls c h u) ctx hyps t wanted
+
+row_answer : (row : Ran RowSorts) (r : RowSorts) → row.answer ≡ Ok r → (and_then row.answer without_domains row.left).answer ≡ Ok (inferred_sort r.sort r.used)
+row_answer row r e = ap (λ answer. (and_then answer without_domains row.left).answer) e
+
+pub scope_of_rows : ScopeOfRows
+scope_of_rows env is calls ctx hyps t =
+    record {
+      tells = λ left r e. (scope_of_sorts env is calls ctx hyps t).tells left (inferred_sort r.sort r.used)
+          (ap (λ ran. ran.answer) (sym (rows_are_sorted env calls ctx t left)) ∙ row_answer (row_at env calls ctx t left) r e);
+    }

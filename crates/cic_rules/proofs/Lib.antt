@@ -4,6 +4,7 @@ pub mod EnvironmentScopes
 pub mod FirstState
 pub mod FuelLaws
 pub mod IndexLaws
+pub mod InductiveScopes
 pub mod InferFuelLaws
 pub mod IotaScopes
 pub mod JudgeFuelLaws
@@ -14,5 +15,6 @@ pub mod ReachLaws
 pub mod RowLaws
 pub mod Samples
 pub mod ScopeLaws
+pub mod ShapeLaws
 pub mod TellsLaws
 pub mod UsedLaws

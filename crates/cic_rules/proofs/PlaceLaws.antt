@@ -15,8 +15,11 @@ use Rattle.cic_rules.specs.declared.entries.EntryKind.TheVariants.{Assumed, Admi
 use Rattle.cic_rules.specs.declared.env.Slot.{Slot}
 use Rattle.cic_rules.specs.Names.{rank_of}
 use Rattle.cic_rules.specs.Laws.{FoundPlacesAreThere}
-use Rattle.cic_rules.specs.Environments.{numbered, place_in, own_slot, slotted, terms_of, Covers, IsFamilyIfAny, IsOwn, IsNew, IsSlotAt, AreSlots, IsIndexed, MayEnter}
+use Rattle.cic_rules.specs.Environments.{numbered, place_in, own_slot, slotted, terms_of, Covers, IsFamilyIfAny, IsOwn, IsNew, IsSlotAt, AreSlots, IsEnvironment, MayEnter}
+use Rattle.cic_rules.specs.declared.shapes.FamilyShape.{FamilyShape}
+use Rattle.cic_rules.specs.Shapes.{shape_if_any, IsKept}
 use Rattle.cic_rules.specs.Scopes.{UseOnly}
+use Rattle.cic_rules.proofs.ShapeLaws.{shapes_more}
 use Rattle.cic_rules.proofs.IndexLaws.{insert_rank}
 
 numbered-last : (n : ℕ) (env : List Slot) (s : Slot) → numbered n (env ++ (s ∷ [])) ≡ numbered n env ++ ((s.entry.name, n + length env) ∷ [])
@@ -36,23 +39,27 @@ place_in-last env s name =
     let at : 0 + length env ≡ length env = omega arith in
     ap (λ es. look (slice_cmp nat_cmp) es name) (numbered-last 0 env s ∙ ap (λ m. numbered 0 env ++ ((s.entry.name, m) ∷ [])) at)
 
+-- an environment with one more global
+pub environment_more : (env : List Slot) (s : Slot) → IsEnvironment env → length env < 2 ^ 31 → IsSlotAt (length env) s → IsEnvironment (env ++ (s ∷ []))
+environment_more env s old room slot =
+    let at : 0 + length env ≡ length env = omega arith in
+    record { short = omega (arith, room, length-append env (s ∷ [])); slots = slots-last 0 env s old.slots (rw at slot) }
+
 -- a global of a new name at the end of an environment, and in its index by its rank
-pub indexed_more : (env : List Slot) (index : List (List ℕ × ℕ)) (s : Slot) → IsIndexed env index → length env < 2 ^ 31 → IsNew env s.entry.name → IsSlotAt (length env) s → IsIndexed (env ++ (s ∷ [])) (insert index (rank_of (slice_cmp nat_cmp) index s.entry.name) (s.entry.name, length env))
-indexed_more env index s old room new slot =
-    let none : look (slice_cmp nat_cmp) index s.entry.name ≡ None = old.told s.entry.name ∙ new in
+pub kept_more : (env : List Slot) (index : List (List ℕ × ℕ)) (shapes : List (Option FamilyShape)) (s : Slot) → IsKept env index shapes → length env < 2 ^ 31 → IsNew env s.entry.name → IsSlotAt (length env) s → IsKept (env ++ (s ∷ [])) (insert index (rank_of (slice_cmp nat_cmp) index s.entry.name) (s.entry.name, length env)) (shapes ++ (shape_if_any (length env) s.decl ∷ []))
+kept_more env index shapes s old room new slot =
+    let none : look (slice_cmp nat_cmp) index s.entry.name ≡ None = old.found s.entry.name ∙ new in
     let at : 0 + length env ≡ length env = omega arith in
     let made = insert_rank (slice_cmp nat_cmp) nat_list_cmp_total index (s.entry.name, length env) none in
     record {
-      environment = record {
-        short = omega (arith, room, length-append env (s ∷ []));
-        slots = slots-last 0 env s old.environment.slots (rw at slot);
-      };
+      environment = environment_more env s old.environment room slot;
       order = rw made (in_order-put (slice_cmp nat_cmp) nat_list_cmp_total index (s.entry.name, length env) old.order);
-      told = λ (name : List ℕ).
+      found = λ (name : List ℕ).
           ap (λ es. look (slice_cmp nat_cmp) es name) made
           ∙ look-put (slice_cmp nat_cmp) nat_list_cmp_total index s.entry.name (length env) name
-          ∙ ap (λ found. cond (is_eq (slice_cmp nat_cmp name s.entry.name)) (Some (length env)) found) (old.told name)
+          ∙ ap (λ found. cond (is_eq (slice_cmp nat_cmp name s.entry.name)) (Some (length env)) found) (old.found name)
           ∙ sym (place_in-last env s name ∙ look-last (slice_cmp nat_cmp) nat_list_cmp_total (numbered 0 env) s.entry.name (length env) new name);
+      shapes = shapes_more env shapes s old.shapes;
     }
 
 covers_own : (place : ℕ) (kind : EntryKind) (terms : List Tree) (used : List ℕ) → IsOwn kind → UseOnly used terms → Covers place kind None terms used

@@ -1,15 +1,14 @@
 -- What is true of each value of a run, for each step and for whatever is put together from them.
-use Rattle.std.proofs.Common.{◌≡◌, ℕ, zero, suc, ◌-◌, nat_le, List, ◌∷◌, Bool, true, false, Option, Some, None, Result, Ok, Err, refl, subst}
+use Rattle.std.proofs.Common.{◌≡◌, ℕ, zero, suc, List, ◌∷◌, Bool, true, false, Option, Some, None, Result, Ok, Err, refl, subst}
 use Rattle.std.specs.Prelude.{if◌then◌else◌}
 use Rattle.base_core.specs.declared.refusals.Stop.{Stop}
 use Rattle.base_core.specs.declared.refusals.Stop.TheVariants.{Out}
-use Rattle.base_core.specs.declared.refusals.Limit.{Limit}
 use Rattle.base_core.specs.declared.refusals.Limit.TheVariants.{StepLimit, SizeLimit}
 use Rattle.cic_rules.specs.declared.context.Hyp.{Hyp}
 use Rattle.cic_rules.specs.Contexts.{extended}
 use Rattle.cic_rules.specs.Convert.{with_hyp}
 use Rattle.cic_rules.specs.Laws.{Tells, Turned}
-use Rattle.cic_rules.specs.Runs.{Run, give, pure, out_of, refuse, and_then, ◌>>=◌, ◌>>◌, require, some_or, Turn, Final, GoOn, next_turn, repeat, runs}
+use Rattle.cic_rules.specs.Runs.{Run, give, pure, and_then, ◌>>=◌, ◌>>◌, require, some_or, Turn, Final, GoOn, next_turn, repeat, runs}
 
 pub tells_give : {A : Type 0} {P : A → Type 0} (answer : Result A Stop) → ((x : A) → answer ≡ Ok x → P x) → Tells (give answer) P
 tells_give answer holds = record { tells = λ left x e. holds x e }

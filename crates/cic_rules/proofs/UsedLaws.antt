@@ -7,7 +7,7 @@ use Rattle.cic_rules.specs.Infer.{merge_in, union}
 use Rattle.cic_rules.specs.Scopes.{has, AreBefore, AreBehind, IsAscending, UsesOnly, AreNames}
 use Rattle.cic_rules.proofs.ReachLaws.{merged_first, merged_second}
 
-behind_more : (p q : ℕ) (ps : List ℕ) → p ≤ q → AreBehind q ps → AreBehind p ps
+pub behind_more : (p q : ℕ) (ps : List ℕ) → p ≤ q → AreBehind q ps → AreBehind p ps
 behind_more p q [] le h = tt
 behind_more p q (x ∷ ps) le h = let lt = h.0 in (omega (arith, le, lt), behind_more p q ps le h.1)
 

@@ -1,12 +1,11 @@
 -- Declarations: what they are judged by, and the environment that they give.
-use Rattle.std.specs.Prelude.{ℕ, List, [], ◌∷◌, Bool, true, ◌&&◌, Option, Some, None, Result, Ok, Err, if◌then◌else◌}
+use Rattle.std.specs.Prelude.{◌≡◌, ℕ, List, [], ◌∷◌, Bool, true, ◌&&◌, Option, Some, None, Result, Ok, Err, if◌then◌else◌}
 use Rattle.base_core.specs.declared.refusals.Stop.{Stop}
 use Rattle.base_core.specs.declared.refusals.Stop.TheVariants.{Out}
 use Rattle.base_core.specs.declared.refusals.Limit.TheVariants.{SizeLimit}
 use Rattle.core_term.specs.Tree.{Tree, is_small}
 use Rattle.cic_rules.specs.declared.decls.Decl.{Decl}
 use Rattle.cic_rules.specs.declared.decls.Decl.TheVariants.{Assume, Define, Admit, Induct}
-use Rattle.cic_rules.specs.declared.decls.InductiveDecl.{InductiveDecl}
 use Rattle.cic_rules.specs.declared.entries.Entry.{Entry}
 use Rattle.cic_rules.specs.declared.entries.EntryKind.{EntryKind}
 use Rattle.cic_rules.specs.declared.entries.EntryKind.TheVariants.{Assumed, Admitted, Defined}
@@ -25,6 +24,12 @@ are_small (t ∷ ts) = is_small t && are_small ts
 abbrev pub types_of : List Entry → List Tree
 types_of [] = []
 types_of (e ∷ es) = e.ty ∷ types_of es
+
+-- this is what the test of a declaration gives in this environment
+pub record IsChecked (env : List Slot) (c : CheckedInductive) : Type 0 where
+  pub calls : ℕ
+  pub units : ℕ
+  pub given : (check_inductive_at env calls c.decl units).answer ≡ Ok c
 
 -- the entries of an inductive type that passed its test, where none of their types is too large
 abbrev pub eliminators : List Slot → CheckedInductive → Result (List Entry) Stop

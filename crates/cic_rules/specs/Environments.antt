@@ -1,11 +1,11 @@
 -- Environments as lists of globals, the oldest first: a place is a position.
-use Rattle.std.specs.Prelude.{◌≡◌, ℕ, ◌+◌, ◌==◌, ◌^◌, ◌≤◌, ◌<◌, nat_le, suc, List, [], ◌∷◌, ◌++◌, length, Bool, true, false, IsTrue, Option, Some, None, Result, Ok, Err, if◌then◌else◌, slice_get}
+use Rattle.std.specs.Prelude.{◌≡◌, ℕ, ◌+◌, ◌==◌, ◌^◌, ◌≤◌, nat_le, suc, List, [], ◌∷◌, ◌++◌, length, Bool, true, false, Option, Some, None, Result, Ok, Err, if◌then◌else◌, slice_get}
 use Rattle.std.specs.Cmp.Lexicographic.{slice_cmp}
 use Rattle.std.specs.Ordering.{nat_cmp}
 use Rattle.base_core.specs.declared.refusals.Stop.{Stop}
 use Rattle.base_core.specs.declared.refusals.Stop.TheVariants.{Out}
 use Rattle.base_core.specs.declared.refusals.Limit.TheVariants.{SizeLimit}
-use Rattle.shared_map.specs.Entries.{look, IsInOrder}
+use Rattle.shared_map.specs.Entries.{look}
 use Rattle.core_term.specs.Tree.{Tree, Var, Sorted, Constant, Prod, Lam, LetIn, App}
 use Rattle.cic_rules.specs.declared.context.Hyp.{Hyp}
 use Rattle.cic_rules.specs.declared.decls.InductiveDecl.{InductiveDecl}
@@ -106,11 +106,11 @@ kind_terms _ = []
 abbrev pub terms_of : Entry → List Tree
 terms_of e = e.ty ∷ kind_terms e.kind
 
-abbrev hyp_types : List Hyp → List Tree
+abbrev pub hyp_types : List Hyp → List Tree
 hyp_types [] = []
 hyp_types (h ∷ hs) = h.ty ∷ hyp_types hs
 
-abbrev ctor_types : List Ctor → List Tree
+abbrev pub ctor_types : List Ctor → List Tree
 ctor_types [] = []
 ctor_types (c ∷ cs) = c.ty ∷ ctor_types cs
 
@@ -169,12 +169,6 @@ AreSlots place (s ∷ ss) = IsSlotAt place s × AreSlots (suc place) ss
 pub record IsEnvironment (env : List Slot) : Type 0 where
   pub short : length env ≤ 2 ^ 31
   pub slots : AreSlots 0 env
-
--- and its names are found by an index in their order
-pub record IsIndexed (env : List Slot) (index : List (List ℕ × ℕ)) : Type 0 where
-  pub environment : IsEnvironment env
-  pub order : IsInOrder (slice_cmp nat_cmp) index
-  pub told : (name : List ℕ) → look (slice_cmp nat_cmp) index name ≡ place_in env name
 
 -- assumed, admitted or defined
 abbrev pub IsOwn : EntryKind → Type 0

@@ -1,5 +1,5 @@
 -- Laws of the definitions.
-use Rattle.std.specs.Prelude.{◌≡◌, ℕ, suc, ◌+◌, ◌≤◌, ◌<◌, ◌↔◌, Bool, List, length, Some, Ok, Err, IsTrue}
+use Rattle.std.specs.Prelude.{◌≡◌, ℕ, suc, ◌+◌, ◌≤◌, ◌<◌, ◌↔◌, Bool, List, ◌∷◌, length, Some, Ok, Err, IsTrue}
 use Rattle.base_core.specs.declared.refusals.Stop.TheVariants.{Out}
 use Rattle.base_core.specs.declared.refusals.Limit.TheVariants.{StepLimit}
 use Rattle.core_term.specs.Tree.{Tree, free_bound}
@@ -7,21 +7,22 @@ use Rattle.core_term.specs.Places.{lift_of, subst_of}
 use Rattle.cic_rules.specs.declared.context.Hyp.{Hyp}
 use Rattle.cic_rules.specs.declared.decls.Decl.{Decl}
 use Rattle.cic_rules.specs.declared.env.Slot.{Slot}
+use Rattle.cic_rules.specs.declared.families.CheckedInductive.{CheckedInductive}
 use Rattle.cic_rules.specs.declared.families.RowSorts.{RowSorts}
 use Rattle.cic_rules.specs.declared.judge.InferredSort.{InferredSort}
 use Rattle.cic_rules.specs.declared.judge.Mode.{Mode}
-use Rattle.cic_rules.specs.Scopes.{has, AreBefore, IsAscending, IsScoped, AreScoped, IsScopedContext}
+use Rattle.cic_rules.specs.Scopes.{has, AreBefore, IsAscending, IsScoped, AreScoped, IsScopedContext, AreNames, UseOnly, IsJudged}
 use Rattle.cic_rules.specs.Judges.{IsInferredIn}
 use Rattle.cic_rules.specs.declared.decls.InductiveDecl.{InductiveDecl}
-use Rattle.cic_rules.specs.Contexts.{type_of_variable, value_of_variable}
+use Rattle.cic_rules.specs.Contexts.{type_of_variable, value_of_variable, products_over}
 use Rattle.cic_rules.specs.Rows.{apply_all, instantiate}
-use Rattle.cic_rules.specs.Environments.{place_in, type_of_global, body_of_global, decl_at, IsScopedDecl, IsEnvironment}
+use Rattle.cic_rules.specs.Environments.{place_in, type_of_global, body_of_global, decl_at, decl_terms, AreScopedCtors, IsScopedDecl, IsEnvironment}
 use Rattle.cic_rules.specs.Derive.{WfContext, HasType}
 use Rattle.cic_rules.specs.Reduce.{whnf_at}
 use Rattle.cic_rules.specs.Convert.{conv_at}
 use Rattle.cic_rules.specs.Infer.{inferred_sort, infer_at, sort_of_at, check_at}
 use Rattle.cic_rules.specs.Inductive.{row_at}
-use Rattle.cic_rules.specs.Declare.{declare_at}
+use Rattle.cic_rules.specs.Declare.{IsChecked, declare_at}
 use Rattle.cic_rules.specs.Runs.{Ran, Run, ◌>>=◌, pure, Turn, Final, GoOn}
 use Rattle.cic_rules.specs.Grounded.{used_at, is_assumption, axioms, Reaches}
 
@@ -109,6 +110,31 @@ ScopeOfReduction = (env : List Slot) → IsEnvironment env → (delta : Bool) (c
 abbrev pub ScopeOfInference : Type 0
 ScopeOfInference = (env : List Slot) → IsEnvironment env → (calls : ℕ) (ctx : List Hyp) → IsScopedContext (length env) ctx →
     (t : Tree) → Tells (infer_at env calls ctx t) (IsInferredIn env ctx t)
+
+-- a term that has a sort, or that passes against a type, is in scope too
+abbrev pub ScopeOfSorts : Type 0
+ScopeOfSorts = (env : List Slot) → IsEnvironment env → (calls : ℕ) (ctx : List Hyp) → IsScopedContext (length env) ctx →
+    (a : Tree) → Tells (sort_of_at env calls ctx a) (λ s. IsJudged (length ctx) (length env) a s.used)
+
+abbrev pub ScopeOfChecks : Type 0
+ScopeOfChecks = (env : List Slot) → IsEnvironment env → (calls : ℕ) (ctx : List Hyp) → IsScopedContext (length env) ctx →
+    (t wanted : Tree) → Tells (check_at env calls ctx t wanted) (IsJudged (length ctx) (length env) t)
+
+abbrev pub ScopeOfRows : Type 0
+ScopeOfRows = (env : List Slot) → IsEnvironment env → (calls : ℕ) (ctx : List Hyp) → IsScopedContext (length env) ctx →
+    (t : Tree) → Tells (row_at env calls ctx t) (λ r. IsJudged (length ctx) (length env) t r.used)
+
+-- an inductive type that passed its test, to stand at the next place: its terms are in scope there, and the names used are of the
+-- environment, and have each global of its terms but the type itself
+pub record IsCheckedIn (env : List Slot) (c : CheckedInductive) : Type 0 where
+  pub place : c.place ≡ length env
+  pub arity : IsScoped 0 (length env) (products_over c.decl.params c.decl.arity)
+  pub ctors : AreScopedCtors (length c.decl.params) (suc (length env)) c.decl.ctors
+  pub names : AreNames (length env) c.used
+  pub uses : UseOnly (length env ∷ c.used) (decl_terms c.decl)
+
+abbrev pub ScopeOfInductives : Type 0
+ScopeOfInductives = (env : List Slot) → IsEnvironment env → (c : CheckedInductive) → IsChecked env c → IsCheckedIn env c
 
 -- what an environment tells is in scope everywhere: types, bodies and declarations
 pub record ScopeOfGlobals : Type 0 where

@@ -7,6 +7,7 @@ pub mod Runs
 pub mod Steps
 pub mod Rows
 pub mod Families
+pub mod Shapes
 pub mod Reduce
 pub mod Convert
 pub mod Infer

@@ -1,5 +1,5 @@
 -- Runs that are paid with units, and the steps that each definition of a judgement is put together from.
-use Rattle.std.specs.Prelude.{ℕ, zero, suc, ◌-◌, nat_le, List, [], ◌∷◌, Bool, Option, Some, None, Result, Ok, Err, if◌then◌else◌}
+use Rattle.std.specs.Prelude.{ℕ, zero, suc, ◌-◌, nat_le, Bool, Option, Some, None, Result, Ok, Err, if◌then◌else◌}
 use Rattle.base_core.specs.declared.refusals.Stop.{Stop}
 use Rattle.base_core.specs.declared.refusals.Stop.TheVariants.{Refused, Out}
 use Rattle.base_core.specs.declared.refusals.Place.{Place}

@@ -1,5 +1,5 @@
 -- Steps that take no units: a value, a refusal at a place, or something too large; never want of units.
-use Rattle.std.specs.Prelude.{ℕ, Bool, Option, Some, None, Result, Ok, Err, if◌then◌else◌}
+use Rattle.std.specs.Prelude.{ℕ, Result, Ok, Err, if◌then◌else◌}
 use Rattle.base_core.specs.declared.refusals.Stop.{Stop}
 use Rattle.base_core.specs.declared.refusals.Stop.TheVariants.{Refused, Out}
 use Rattle.base_core.specs.declared.refusals.Place.{Place}

@@ -6,10 +6,12 @@ ghost use Rattle.shared_map.specs.Entries.{IsInOrder};
 ghost use Rattle.base_core.specs.Answers.{Gives};
 ghost use Rattle.cic_rules.specs.Names.{rank_of, stands_before};
 ghost use Rattle.cic_rules.specs.Environments.{entry_at, decl_at, place_in, entered, all_entered, slotted, IsEnvironment, IsNew, AreNew, IsSlotAt, AreSlots, MayEnter};
+ghost use Rattle.cic_rules.specs.Shapes.{shape_at, kept_shape};
 ghost use Rattle.cic_rules.specs.EnterFamily.{MayEnterFamily};
 
 use crate::decls::InductiveDecl;
 use crate::entries::{Entry, EntryList};
+use crate::shapes::{FamilyShape, shape_if_any};
 use base_core::{Limit, NoMem, Stop, Text};
 use shared_map::SharedList;
 use std::alloc::Global;
@@ -21,6 +23,8 @@ use std::marker::Model;
 #[derive(Drop)]
 pub struct GlobalEnv {
     slots: SharedList<Slot>,
+    /// For each global what reduction asks of it, where it is an inductive type.
+    shapes: SharedList<Option<FamilyShape>>,
     /// Each name with its place, by names.
     index: SharedList<(Text, u32)>,
 }
@@ -47,17 +51,19 @@ impl Model for GlobalEnv {
 
     ghost view = { λ e. e.slots };
 
-    ghost use Rattle.cic_rules.specs.Environments.{IsIndexed};
+    ghost use Rattle.cic_rules.specs.Shapes.{IsKept};
 
-    ghost invariant = { λ e. IsIndexed e.slots e.index };
+    ghost invariant = { λ e. IsKept e.slots e.index e.shapes };
 }
 
 impl GlobalEnv {
+    #[tactic(auto, using(crate::proofs::ShapeLaws::shapes_none))]
     pub fn empty() -> GlobalEnv
         ensures { result ≡ [] }
     {
         GlobalEnv {
             slots: SharedList::empty(),
+            shapes: SharedList::empty(),
             index: SharedList::empty(),
         }
     }
@@ -93,6 +99,15 @@ impl GlobalEnv {
         }
     }
 
+    /// What reduction asks of the inductive type at a place. It was told once, when the type was
+    /// entered.
+    #[tactic(auto, using(crate::proofs::ShapeLaws::shape_found))]
+    pub fn shape(&self, place: u32) -> Option<&FamilyShape>
+        ensures { option_copied result ≡ shape_at self.now place }
+    {
+        shape_in(&self.shapes, place)
+    }
+
     /// The place of the global with this name, in a time that is logarithmic in the number of
     /// globals.
     #[tactic(auto, using(crate::proofs::PlaceLaws::place_below))]
@@ -119,6 +134,7 @@ impl GlobalEnv {
     {
         Ok(GlobalEnv {
             slots: self.slots.share()?,
+            shapes: self.shapes.share()?,
             index: self.index.share()?,
         })
     }
@@ -177,9 +193,19 @@ impl GlobalEnv {
                 entry,
                 decl: decl.take(),
             };
-            env = env.with_slot(alloc, slot)?;
+            env = env.into_larger(alloc, slot)?;
         }
         Ok(env)
+    }
+
+    /// The old environment is let go.
+    fn into_larger(self, alloc: Global, slot: Slot) -> Result<GlobalEnv, NoMem>
+        requires room { length self < 2 ^ 31 }
+        requires new { IsNew self slot.entry.name }
+        requires slot { IsSlotAt (length self) slot }
+        ensures { IfOk result (λ e. e ≡ self ++ (slot ∷ [])) }
+    {
+        self.with_slot(alloc, slot)
     }
 
     fn with_slot(&self, alloc: Global, slot: Slot) -> Result<GlobalEnv, NoMem>
@@ -189,11 +215,26 @@ impl GlobalEnv {
         ensures { IfOk result (λ e. e ≡ self.now ++ (slot ∷ [])) }
     {
         let place = self.slots.len() as u32;
-        let name = Text::copy(alloc, slot.entry.name.as_str())?;
+        let name = slot.entry.name.share()?;
         let at = rank(&self.index, &name);
         let index = self.index.with_insert(alloc, at, (name, place))?;
+        let shape = shape_if_any(alloc, place, &slot.decl)?;
+        let shapes = self.shapes.with_last(alloc, shape)?;
         let slots = self.slots.with_last(alloc, slot)?;
-        Ok(GlobalEnv { slots, index })
+        Ok(GlobalEnv {
+            slots,
+            shapes,
+            index,
+        })
+    }
+}
+
+fn shape_in(shapes: &SharedList<Option<FamilyShape>>, place: u32) -> Option<&FamilyShape>
+    ensures { option_copied result ≡ kept_shape (slice_get shapes.now place) }
+{
+    match shapes.get(place as usize) {
+        Some(shape) => shape.as_ref(),
+        None => None,
     }
 }
 

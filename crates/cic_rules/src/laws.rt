@@ -1,7 +1,7 @@
 //! Laws of the definitions that the other clauses cite, for the proofs above this crate. Each
 //! function does nothing.
 
-ghost use Rattle.cic_rules.specs.Laws.{NamesMayGrow, AxiomsAscend, EntriesUseBefore, AxiomsAreReached, RowsAreSorted, FuelOfReduction, FuelOfConversion, FuelOfInference, FuelOfSorts, FuelOfChecks, FuelOfDeclarations, ScopeOfReduction, ScopeOfInference, FoundPlacesAreThere, ScopeOfGlobals, ScopeOfContexts, ScopeOfTerms};
+ghost use Rattle.cic_rules.specs.Laws.{NamesMayGrow, AxiomsAscend, EntriesUseBefore, AxiomsAreReached, RowsAreSorted, FuelOfReduction, FuelOfConversion, FuelOfInference, FuelOfSorts, FuelOfChecks, FuelOfDeclarations, ScopeOfReduction, ScopeOfInference, ScopeOfSorts, ScopeOfChecks, ScopeOfRows, ScopeOfInductives, FoundPlacesAreThere, ScopeOfGlobals, ScopeOfContexts, ScopeOfTerms};
 
 /// What is derived over some names is derived over every list that has them.
 pub fn law_of_names()
@@ -39,6 +39,10 @@ pub fn law_of_fuel()
 pub fn law_of_scopes()
     ensures reduction { ScopeOfReduction }
     ensures inference { ScopeOfInference }
+    ensures sorts { ScopeOfSorts }
+    ensures checks { ScopeOfChecks }
+    ensures rows { ScopeOfRows }
+    ensures inductives { ScopeOfInductives }
     ensures found { FoundPlacesAreThere }
     ensures globals { ScopeOfGlobals }
     ensures contexts { ScopeOfContexts }

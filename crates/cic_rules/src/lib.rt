@@ -10,6 +10,7 @@ mod families;
 mod fuel;
 mod judge;
 mod laws;
+mod shapes;
 
 pub use context::{Context, Hyp};
 pub use decls::{ContextList, Ctor, CtorList, Decl, InductiveDecl};
@@ -19,3 +20,4 @@ pub use families::{CheckedInductive, RowSorts, SortList};
 pub use fuel::Fuel;
 pub use judge::{Answer, Arrow, Declares, Inferred, InferredSort, Judge, Mode};
 pub use laws::{law_of_axioms, law_of_fuel, law_of_names, law_of_rows, law_of_scopes};
+pub use shapes::FamilyShape;

@@ -3,8 +3,9 @@ use Rattle.std.specs.Prelude.{insert}
 use Rattle.std.specs.Cmp.Lexicographic.{slice_cmp}
 use Rattle.std.specs.Ordering.{nat_cmp}
 use Rattle.cic_rules.specs.Names.{rank_of}
+use Rattle.cic_rules.specs.Shapes.{shape_if_any}
 use Rattle.cic_rules.specs.Environments.{IsNew, IsSlotAt}
-use Rattle.cic_rules.proofs.PlaceLaws.{indexed_more}
+use Rattle.cic_rules.proofs.PlaceLaws.{kept_more}
 use Rattle.cic_rules.proofs.env.GlobalEnv.with_slot.Goals as goal
 
 pub invariant_of-result : goal.invariant_of-result
@@ -16,4 +17,5 @@ invariant_of-result c =
     let room : length env < 2 ^ 31 = search rules in
     let new : IsNew env name = search rules in
     let slot : IsSlotAt (length env) c.args.slot = search rules in
-    rw (slots, index) (indexed_more env c.self.inside.index c.args.slot c.self.invariant room new slot)
+    let shapes : c.in_ok-shapes.shapes ≡ c.self.inside.shapes ++ (shape_if_any (length env) c.args.slot.decl ∷ []) = grind arith in
+    rw (slots, index, shapes) (kept_more env c.self.inside.index c.self.inside.shapes c.args.slot c.self.invariant room new slot)
