@@ -8,8 +8,6 @@ mod laws;
 mod moves;
 mod pieces;
 mod rooms;
-#[cfg(test)]
-mod tests;
 mod token;
 mod tokenizing;
 mod tree;

@@ -8,8 +8,6 @@ mod move_word;
 mod names;
 mod parsing;
 mod rows;
-#[cfg(test)]
-mod tests;
 
 pub use laws::one_move;
 pub use parsing::parse_move;

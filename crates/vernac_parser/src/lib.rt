@@ -13,8 +13,6 @@ mod operators;
 mod parsing;
 mod rule;
 mod sign;
-#[cfg(test)]
-mod tests;
 
 pub use laws::{
     law_of_answers, law_of_commands, one_answer, one_command, one_command_answer, one_tree,

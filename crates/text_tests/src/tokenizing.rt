@@ -1,7 +1,9 @@
-use crate::{TokenKind, tokens};
+//! Tokens: each by its kind, its text and its bytes, and the byte of the period.
+
+use crate::reading::tokens_of;
 use base_core::NoMem;
+use coq_syntax::TokenKind;
 use std::alloc::Global;
-use std::process::Abort;
 
 fn name(kind: TokenKind) -> &'static str {
     match kind {
@@ -15,15 +17,9 @@ fn name(kind: TokenKind) -> &'static str {
     }
 }
 
-// The tokens of a body and a period, each as its kind, its text and its places.
 fn shown(alloc: Global, body: &str) -> Result<String, NoMem> {
+    let list = tokens_of(alloc, body)?;
     let mut text = String::new(alloc);
-    if body.len() > 1000 {
-        return Ok(text);
-    }
-    let mut sentence = String::from_str(alloc, body)?;
-    sentence.push('.')?;
-    let list = tokens(alloc, sentence.as_str())?;
     for token in list.as_slice() {
         let kind = name(token.kind);
         let word = token.text.as_str();

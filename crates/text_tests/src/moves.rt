@@ -1,0 +1,76 @@
+//! Proof moves: the row and its direct parts, or the refusal.
+
+use crate::reading;
+
+const MOVES: [(&str, &str); 62] = [
+    ("intro", "intro"),
+    ("intro x", "intro x"),
+    ("intro x y", "10 at 8 to 9"),
+    ("intro _", "10 at 6 to 7"),
+    ("intro in", "10 at 6 to 8"),
+    ("intros", "intros"),
+    ("intros x y intro", "intros x y intro"),
+    ("intros x _", "10 at 9 to 10"),
+    ("intros x forall", "10 at 9 to 15"),
+    ("exact x", "exact x"),
+    ("exact a -> b", "exact ->"),
+    ("exact", "10 at 5 to 6"),
+    ("exact a b )", "10 at 10 to 11"),
+    ("exact a = b = c", "10 at 12 to 13"),
+    ("exact (", "10 at 7 to 8"),
+    ("exact in", "10 at 6 to 8"),
+    ("exact 201", "12 at 6 to 9"),
+    ("exact 201 )", "12 at 6 to 9"),
+    ("apply f", "apply f"),
+    ("apply f (x := a) b", "apply apply"),
+    ("apply", "10 at 5 to 6"),
+    ("apply Type@{0}", "13 at 12 to 13"),
+    ("assumption", "assumption"),
+    ("assumption x", "10 at 11 to 12"),
+    ("split", "split"),
+    ("split split", "10 at 6 to 11"),
+    ("left", "left"),
+    ("left 1", "10 at 5 to 6"),
+    ("right", "right"),
+    ("right ->", "10 at 6 to 8"),
+    ("reflexivity", "reflexivity"),
+    ("admit", "admit"),
+    ("simpl", "simpl"),
+    ("simpl in", "10 at 6 to 8"),
+    ("unfold f", "unfold f"),
+    ("unfold", "10 at 6 to 7"),
+    ("unfold Set", "10 at 7 to 10"),
+    ("unfold f g", "10 at 9 to 10"),
+    ("destruct x", "destruct x"),
+    ("destruct x as []", "destruct x as [ ]"),
+    ("destruct x as [|]", "destruct x as [ | ]"),
+    ("destruct x as [a _ | | b]", "destruct x as [ a _ | | b ]"),
+    ("destruct", "10 at 8 to 9"),
+    ("destruct as", "10 at 9 to 11"),
+    ("destruct x as", "10 at 13 to 14"),
+    ("destruct x [a]", "10 at 11 to 12"),
+    ("destruct x as a", "10 at 14 to 15"),
+    ("destruct x as [a", "10 at 16 to 17"),
+    ("destruct x as [a |", "10 at 18 to 19"),
+    ("destruct x as [a in]", "10 at 17 to 19"),
+    ("destruct x as [a] b", "10 at 18 to 19"),
+    ("induction x", "induction x"),
+    ("induction n as [| n IH]", "induction n as [ | n IH ]"),
+    ("induction _", "10 at 10 to 11"),
+    ("rewrite e", "rewrite e"),
+    ("rewrite -> e", "rewrite -> e"),
+    ("rewrite <- f x", "rewrite <- apply"),
+    ("rewrite", "10 at 7 to 8"),
+    ("rewrite <-", "10 at 10 to 11"),
+    ("rewrite <- -> e", "10 at 11 to 13"),
+    ("Check x", "10 at 0 to 5"),
+    ("", "10 at 0 to 1"),
+];
+
+#[test]
+fn moves_are_read(rt: HostRuntime) {
+    for (body, wanted) in &MOVES {
+        let found = reading::proof_move(rt.alloc(), body).expect(&rt, "memory");
+        assert_eq!(rt; found.as_str(), *wanted);
+    }
+}

@@ -1,0 +1,142 @@
+//! Terms: the row of the root and of its direct parts, and the place behind it; or the refusal.
+
+use crate::reading;
+
+const TERMS: [(&str, &str); 99] = [
+    ("a -> b -> c", "-> a -> 5"),
+    ("~ a = b", "~ = 4"),
+    ("a /\\ b \\/ c", "\\/ /\\ c 5"),
+    ("a /\\ b /\\ c", "/\\ a /\\ 5"),
+    ("a \\/ b \\/ c -> d", "-> \\/ d 7"),
+    ("~ ~ f x /\\ b", "/\\ ~ b 6"),
+    ("f x = g y", "= apply apply 5"),
+    ("a = b = c", "= a b 3"),
+    ("a \\/ forall x : A, b -> c", "\\/ a forall 10"),
+    ("a /\\ fun x : A => b \\/ c", "/\\ a fun 10"),
+    ("~ let x := a in b = c", "~ let 9"),
+    ("let _ : A := a in b", "let _ : A a b 8"),
+    (
+        "forall (x y : A) (_ : B), C",
+        "forall ( x y A ) ( _ B ) C 14",
+    ),
+    ("forall x _ : A, B", "forall x _ A B 7"),
+    ("f (x := a) (b c) 3", "apply f x := a () 3 11"),
+    ("f (x a) (y)", "apply f () () 8"),
+    ("(x := a)", "10 at 3 to 5"),
+    ("Type@{1000} Set Prop Type", "apply Type@ Set Prop Type 8"),
+    ("Type@{1001}", "13 at 6 to 10"),
+    ("Type@1", "10 at 5 to 6"),
+    ("200", "200 1"),
+    ("a -> in", "10 at 5 to 7"),
+    ("forall x, a", "10 at 8 to 9"),
+    ("", "10 at 0 to 1"),
+    ("a -> forall x : A, b -> c", "-> a forall 10"),
+    ("a -> fun x : A => b \\/ c", "-> a fun 10"),
+    ("a -> let x := b in c /\\ d", "-> a let 10"),
+    ("a \\/ fun x : A => b -> c", "\\/ a fun 10"),
+    ("a \\/ let x := b in c -> d", "\\/ a let 10"),
+    ("a /\\ forall x : A, b \\/ c", "/\\ a forall 10"),
+    ("a /\\ let x := b in c \\/ d", "/\\ a let 10"),
+    ("~ forall x : A, b -> c", "~ forall 9"),
+    ("~ fun x : A => b /\\ c", "~ fun 9"),
+    ("a ->", "10 at 4 to 5"),
+    ("a \\/", "10 at 4 to 5"),
+    ("a /\\", "10 at 4 to 5"),
+    ("~", "10 at 1 to 2"),
+    ("a =", "10 at 3 to 4"),
+    ("a -> b \\/", "10 at 9 to 10"),
+    ("Type@", "10 at 5 to 6"),
+    ("Type@{", "10 at 6 to 7"),
+    ("Type@{1", "10 at 7 to 8"),
+    ("(", "10 at 1 to 2"),
+    ("(a", "10 at 2 to 3"),
+    ("f (", "10 at 3 to 4"),
+    ("f (x", "10 at 4 to 5"),
+    ("f (x :=", "10 at 7 to 8"),
+    ("f (x := a", "10 at 9 to 10"),
+    ("forall", "10 at 6 to 7"),
+    ("forall x", "10 at 8 to 9"),
+    ("forall x :", "10 at 10 to 11"),
+    ("forall x : A", "10 at 12 to 13"),
+    ("forall x : A,", "10 at 13 to 14"),
+    ("forall (", "10 at 8 to 9"),
+    ("forall (x", "10 at 9 to 10"),
+    ("forall (x :", "10 at 11 to 12"),
+    ("forall (x : A", "10 at 13 to 14"),
+    ("forall (x : A)", "10 at 14 to 15"),
+    ("forall (x : A),", "10 at 15 to 16"),
+    ("fun", "10 at 3 to 4"),
+    ("fun x", "10 at 5 to 6"),
+    ("fun x :", "10 at 7 to 8"),
+    ("fun x : A", "10 at 9 to 10"),
+    ("fun x : A =>", "10 at 12 to 13"),
+    ("fun (x : A)", "10 at 11 to 12"),
+    ("let", "10 at 3 to 4"),
+    ("let x", "10 at 5 to 6"),
+    ("let x :", "10 at 7 to 8"),
+    ("let x : A", "10 at 9 to 10"),
+    ("let x : A :=", "10 at 12 to 13"),
+    ("let x :=", "10 at 8 to 9"),
+    ("let x := a", "10 at 10 to 11"),
+    ("let x := a in", "10 at 13 to 14"),
+    ("-> a", "10 at 0 to 2"),
+    ("a = ~ b", "10 at 4 to 5"),
+    ("a = forall x : A, b", "10 at 4 to 10"),
+    ("forall , a", "10 at 7 to 8"),
+    ("forall (: A), a", "10 at 8 to 9"),
+    ("forall x : , a", "10 at 11 to 12"),
+    ("fun x : A => => a", "10 at 13 to 15"),
+    ("let x in b", "10 at 6 to 8"),
+    ("let x y", "10 at 6 to 7"),
+    ("Type@{}", "10 at 6 to 7"),
+    ("Type@{x}", "10 at 6 to 7"),
+    ("Type@{1 2}", "10 at 8 to 9"),
+    ("f (x := )", "10 at 8 to 9"),
+    ("f (x := a := b)", "10 at 10 to 12"),
+    ("as", "10 at 0 to 2"),
+    ("return", "10 at 0 to 6"),
+    ("forall in : A, b", "10 at 7 to 9"),
+    ("forall x Type : A, b", "10 at 9 to 13"),
+    ("fun as : A => b", "10 at 4 to 6"),
+    ("forall (Set : A), b", "10 at 8 to 11"),
+    ("forall (x fix : A), b", "10 at 10 to 13"),
+    ("let end := a in b", "10 at 4 to 7"),
+    ("f (match := a)", "10 at 3 to 8"),
+    ("f (Prop := a)", "10 at 8 to 10"),
+    ("Type@{1000}", "Type@ 1000 5"),
+    ("(a -> b)", "() -> 5"),
+];
+
+// A text, the place of its tokens where a term is read, and the term.
+const PLACES: [(&str, usize, &str); 14] = [
+    ("a b c", 1, "apply b c 3"),
+    ("a b c", 2, "c 3"),
+    ("exact a -> b", 1, "-> a b 4"),
+    ("rewrite -> a = b", 2, "= a b 5"),
+    ("destruct x as y", 1, "x 2"),
+    ("(a b) c", 1, "apply a b 3"),
+    ("a ~ b = c", 1, "~ = 5"),
+    ("a forall x : A, b", 1, "forall x A b 7"),
+    ("a -> in", 2, "10 at 5 to 7"),
+    ("a , b", 1, "10 at 2 to 3"),
+    ("a 201", 1, "12 at 2 to 5"),
+    ("a", 1, "10 at 1 to 2"),
+    ("a b", 2, "10 at 3 to 4"),
+    ("rewrite <-", 2, "10 at 10 to 11"),
+];
+
+#[test]
+fn terms_are_read(rt: HostRuntime) {
+    for (body, wanted) in &TERMS {
+        let found = reading::term(rt.alloc(), body, 0).expect(&rt, "memory");
+        assert_eq!(rt; found.as_str(), *wanted);
+    }
+}
+
+#[test]
+fn terms_are_read_at_any_place(rt: HostRuntime) {
+    for (body, at, wanted) in &PLACES {
+        let found = reading::term(rt.alloc(), body, *at).expect(&rt, "memory");
+        assert_eq!(rt; found.as_str(), *wanted);
+    }
+}
