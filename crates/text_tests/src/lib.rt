@@ -4,6 +4,8 @@
 #[cfg(test)]
 mod commands;
 #[cfg(test)]
+mod edits;
+#[cfg(test)]
 mod moves;
 #[cfg(test)]
 mod nesting;

@@ -1,3 +1,5 @@
+//! Positions of offsets, and the sentences of a text.
+
 use base_core::{Kind, Position};
 use sentence_split::split;
 use std::test::Fail;

@@ -5,7 +5,7 @@ use Rattle.std.specs.List.Sorted.{IsNonDecreasing, IsPartitionPoint}
 use Rattle.std.proofs.lemmas.List.Sums.{sum_by-cons}
 use Rattle.std.proofs.lemmas.Bool.Decides.{nat_tests}
 use Rattle.utf16_doc.specs.Lines.{ends_line, line_ends}
-use Rattle.utf16_doc.specs.Position.{line_at, line_start}
+use Rattle.utf16_doc.specs.Positions.{line_at, line_start}
 
 -- each is above the one before, and the first above a number
 pub Ascends : ℕ → List ℕ → Type 0

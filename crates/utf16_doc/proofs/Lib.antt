@@ -1,3 +1,6 @@
 pub mod Ascending
 pub mod Sums
-pub mod Positions
+pub mod PositionLaws
+pub mod Offsets
+pub mod Alike
+pub mod Changing

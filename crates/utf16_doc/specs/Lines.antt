@@ -14,3 +14,12 @@ ends_line b rest = b == 10 || (b == 13 && not (begins_with_feed rest))
 abbrev pub line_ends : ℕ → List ℕ → List ℕ
 line_ends at [] = []
 line_ends at (b ∷ rest) = if ends_line b rest then (at + 1) ∷ line_ends (at + 1) rest else line_ends (at + 1) rest
+
+-- the byte belongs to an end mark
+abbrev pub is_line_break : ℕ → Bool
+is_line_break b = b == 10 || b == 13
+
+-- the line with which these bytes begin, its end mark excluded
+abbrev pub content : List ℕ → List ℕ
+content [] = []
+content (b ∷ rest) = if is_line_break b then [] else b ∷ content rest

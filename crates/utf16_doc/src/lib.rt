@@ -1,8 +1,17 @@
-//! Texts as editors count them: lines, and UTF-16 units from a line's start.
+//! Texts as editors count them: lines, and units of UTF-8 or UTF-16 from a line's start; and edits by such positions.
 #![tactic(auto)]
 
 mod docs;
+mod edits;
+mod encoded_doc;
+mod encoding;
+mod lined_text;
 mod lines;
+mod positions;
+mod stops;
 mod units;
 
-pub use docs::{Doc, DocStop};
+pub use docs::Doc;
+pub use encoded_doc::EncodedDoc;
+pub use encoding::Encoding;
+pub use stops::DocStop;

@@ -1,8 +1,18 @@
-ghost use Rattle.std.specs.Prelude.{◌≡◌, ◌+◌, ◌^◌, ◌<◌, ◌≤◌, nat_le, ◌∷◌, count_by, length, slice_index, IfOk};
-ghost use Rattle.std.specs.List.Sorted.{IsNonDecreasing};
-ghost use Rattle.utf16_doc.specs.Lines.{ends_line, line_ends};
+//! Where lines end and start.
 
+ghost use Rattle.std.specs.Prelude.{◌≡◌, ◌+◌, ◌^◌, ◌<◌, ◌≤◌, nat_le, ◌∷◌, count_by, length, slice_index, slice_range, IfOk};
+ghost use Rattle.std.specs.List.Sorted.{IsNonDecreasing};
+ghost use Rattle.utf16_doc.specs.Lines.{ends_line, line_ends, is_line_break};
+
+use base_core::TEXT_LIMIT;
 use std::alloc::{AllocError, Global};
+
+/// Whether a byte belongs to an end mark.
+pub fn is_line_break(byte: u8) -> bool
+    ensures { result ≡ is_line_break byte }
+{
+    byte == b'\n' || byte == b'\r'
+}
 
 /// Whether a line ends with this byte, by what follows it.
 fn ends_line(byte: u8, rest: &[u8]) -> bool
@@ -17,7 +27,7 @@ fn ends_line(byte: u8, rest: &[u8]) -> bool
 
 /// The offsets at which the end marks of lines end.
 pub fn line_ends(alloc: Global, text: &[u8]) -> Result<Vec<u32>, AllocError>
-    requires { length text.now ≤ 1048576 }
+    requires { length text.now ≤ TEXT_LIMIT }
     ensures { IfOk result (λ ends. ends.items ≡ line_ends 0 text.now) }
 {
     let mut ends = Vec::new(alloc);
