@@ -41,11 +41,11 @@ scoped_case n m p params place eliminator case values (Prod k a b) (v ∷ vs) e 
     (case_to (mentions place a) n m p params eliminator case v values a e h c hs.0 all t.0) (hs.0, all) t.1 hs.1
 scoped_case n m p params place eliminator case values ty vs e h c all t hs = c
 
-scoped_newest : (n m : ℕ) (ts later : List Tree) → AreScoped n m ts → AreScoped n m later → AreScoped n m (newest_first ts later)
+pub scoped_newest : (n m : ℕ) (ts later : List Tree) → AreScoped n m ts → AreScoped n m later → AreScoped n m (newest_first ts later)
 scoped_newest n m [] later h k = k
 scoped_newest n m (t ∷ ts) later h k = scoped_newest n m ts (t ∷ later) h.1 (h.0, k)
 
-length_newest : (ts later : List Tree) → length (newest_first ts later) ≡ length ts + length later
+pub length_newest : (ts later : List Tree) → length (newest_first ts later) ≡ length ts + length later
 length_newest [] later = omega arith
 length_newest (t ∷ ts) later = let rest = length_newest ts (t ∷ later) in omega (arith, rest)
 

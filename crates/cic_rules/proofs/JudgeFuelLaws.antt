@@ -73,7 +73,7 @@ module _ (env : List Slot) (head : Tree → Run Tree) (heads : (t : Tree) → Ke
   law_blocker inner laws t h None (Some major) = search (fuel_laws)
   law_blocker inner laws t h _ _ = search (fuel_laws)
 
-  blocker_fuel : (majors : ℕ) (t : Tree) → KeepsLawOfFuel (blocker_at env head majors t)
+  pub blocker_fuel : (majors : ℕ) (t : Tree) → KeepsLawOfFuel (blocker_at env head majors t)
   unfolding blocker_at
   blocker_fuel zero t = search (fuel_laws)
   blocker_fuel (suc majors) t = law_blocker (blocker_at env head majors) (blocker_fuel majors) t (head_of t) _ (major_premise env (head_of t) (arguments_of t))
@@ -105,7 +105,7 @@ module _ (env : List Slot) (calls : ℕ) (head : List Hyp → Tree → Run Tree)
   law_stuck : (ctx : List Hyp) (t : Tree) → KeepsLawOfFuel (blocker_at env (head ctx) calls t)
   law_stuck ctx t = blocker_fuel env (head ctx) (heads ctx) calls t
 
-  turn_unblock : (ctx : List Hyp) (t u : Tree) → IsTurn (unblock env calls head conv ctx t u)
+  pub turn_unblock : (ctx : List Hyp) (t u : Tree) → IsTurn (unblock env calls head conv ctx t u)
   turn_unblock ctx t u = search (turn_laws, law_stuck, turn_delta)
 
   law_all : (ctx : List Hyp) (ts us : List Tree) → KeepsLawOfFuel (conv_all env calls head conv ctx ts us)
@@ -134,7 +134,7 @@ module _ (env : List Slot) (calls : ℕ) (head : List Hyp → Tree → Run Tree)
   turn_reduced ctx mode t (Lam m c d) = search (turn_laws, turn_eta, turn_unblock)
   turn_reduced ctx mode t u = turn_heads ctx t u (head_of t) (head_of u)
 
-  turn_convert : (ctx : List Hyp) (mode : Mode) (sides : Sides) → IsTurn (conv_step env calls head conv ctx mode sides)
+  pub turn_convert : (ctx : List Hyp) (mode : Mode) (sides : Sides) → IsTurn (conv_step env calls head conv ctx mode sides)
   turn_convert ctx mode sides = search (turn_laws, turn_reduced)
 
   law_compare : (ctx : List Hyp) (mode : Mode) (t u : Tree) → KeepsLawOfFuel (compare env calls head conv ctx mode t u)

@@ -1,6 +1,8 @@
 pub mod AxiomLaws
 pub mod ContextLaws
+pub mod EliminatorScopes
 pub mod EnvironmentScopes
+pub mod FamilyLaws
 pub mod FirstState
 pub mod FuelLaws
 pub mod IndexLaws
@@ -14,6 +16,7 @@ pub mod PlaceLaws
 pub mod ReachLaws
 pub mod RowLaws
 pub mod Samples
+pub mod RunsLaws
 pub mod ScopeLaws
 pub mod ShapeLaws
 pub mod TellsLaws

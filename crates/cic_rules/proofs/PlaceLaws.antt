@@ -34,7 +34,7 @@ slots-last n (e ∷ env) s all new =
     let at : n + suc (length env) ≡ suc n + length env = omega arith in
     (all.0, slots-last (suc n) env s all.1 (rw (← at) new))
 
-place_in-last : (env : List Slot) (s : Slot) (name : List ℕ) → place_in (env ++ (s ∷ [])) name ≡ look (slice_cmp nat_cmp) (numbered 0 env ++ ((s.entry.name, length env) ∷ [])) name
+pub place_in-last : (env : List Slot) (s : Slot) (name : List ℕ) → place_in (env ++ (s ∷ [])) name ≡ look (slice_cmp nat_cmp) (numbered 0 env ++ ((s.entry.name, length env) ∷ [])) name
 place_in-last env s name =
     let at : 0 + length env ≡ length env = omega arith in
     ap (λ es. look (slice_cmp nat_cmp) es name) (numbered-last 0 env s ∙ ap (λ m. numbered 0 env ++ ((s.entry.name, m) ∷ [])) at)

@@ -8,7 +8,7 @@ use Rattle.cic_rules.specs.declared.context.Hyp.{Hyp}
 use Rattle.cic_rules.specs.Contexts.{extended}
 use Rattle.cic_rules.specs.Convert.{with_hyp}
 use Rattle.cic_rules.specs.Laws.{Tells, Turned}
-use Rattle.cic_rules.specs.Runs.{Run, give, pure, and_then, ◌>>=◌, ◌>>◌, require, some_or, Turn, Final, GoOn, next_turn, repeat, runs}
+use Rattle.cic_rules.specs.Runs.{Run, give, pure, and_then, ◌>>=◌, ◌>>◌, require, forbid, some_or, Turn, Final, GoOn, next_turn, repeat, runs}
 
 pub tells_give : {A : Type 0} {P : A → Type 0} (answer : Result A Stop) → ((x : A) → answer ≡ Ok x → P x) → Tells (give answer) P
 tells_give answer holds = record { tells = λ left x e. holds x e }
@@ -50,6 +50,17 @@ tells_require {g = g} {Q = Q} b code rest =
     record {
       tells = λ left y e. then_tells_by (λ _. b ≡ true) Q (require b code left).answer (require b code left).left (λ _. g)
           ((require_tells b code).tells left) (λ x h. rest h) y e;
+    }
+
+forbid_tells : (b : Bool) (code : ℕ) → Tells (forbid b code) (λ _. b ≡ false)
+forbid_tells true code = tells_stop _
+forbid_tells false code = tells_pure tt refl
+
+pub tells_forbid : {A : Type 0} {g : Run A} {Q : A → Type 0} (b : Bool) (code : ℕ) → (b ≡ false → Tells g Q) → Tells (forbid b code >> g) Q
+tells_forbid {g = g} {Q = Q} b code rest =
+    record {
+      tells = λ left y e. then_tells_by (λ _. b ≡ false) Q (forbid b code left).answer (forbid b code left).left (λ _. g)
+          ((forbid_tells b code).tells left) (λ x h. rest h) y e;
     }
 
 -- a value that was there

@@ -9,7 +9,7 @@ use Rattle.cic_rules.specs.declared.env.Slot.{Slot}
 use Rattle.cic_rules.specs.Environments.{slotted, AreNew, AreSlots}
 use Rattle.cic_rules.specs.Eliminators.{family_entries}
 
-abbrev with_sort : EntryKind → List Sort → List Sort
+abbrev pub with_sort : EntryKind → List Sort → List Sort
 with_sort (Eliminator of sort) sorts = sort ∷ sorts
 with_sort _ sorts = sorts
 

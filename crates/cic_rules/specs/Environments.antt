@@ -66,7 +66,7 @@ place_in env name = look (slice_cmp nat_cmp) (numbered 0 env) name
 abbrev pub IsNew : List Slot → List ℕ → Type 0
 IsNew env name = place_in env name ≡ None
 
-abbrev is_there : Option ℕ → Bool
+abbrev pub is_there : Option ℕ → Bool
 is_there None = false
 is_there (Some _) = true
 

@@ -6,7 +6,9 @@ use Rattle.core_term.specs.Tree.{Tree, free_bound}
 use Rattle.core_term.specs.Places.{lift_of, subst_of}
 use Rattle.cic_rules.specs.declared.context.Hyp.{Hyp}
 use Rattle.cic_rules.specs.declared.decls.Decl.{Decl}
+use Rattle.cic_rules.specs.declared.entries.Entry.{Entry}
 use Rattle.cic_rules.specs.declared.env.Slot.{Slot}
+use Rattle.cic_rules.specs.EnterFamily.{MayEnterFamily}
 use Rattle.cic_rules.specs.declared.families.CheckedInductive.{CheckedInductive}
 use Rattle.cic_rules.specs.declared.families.RowSorts.{RowSorts}
 use Rattle.cic_rules.specs.declared.judge.InferredSort.{InferredSort}
@@ -22,7 +24,7 @@ use Rattle.cic_rules.specs.Reduce.{whnf_at}
 use Rattle.cic_rules.specs.Convert.{conv_at}
 use Rattle.cic_rules.specs.Infer.{inferred_sort, infer_at, sort_of_at, check_at}
 use Rattle.cic_rules.specs.Inductive.{row_at}
-use Rattle.cic_rules.specs.Declare.{IsChecked, declare_at}
+use Rattle.cic_rules.specs.Declare.{IsChecked, eliminators, declare_at}
 use Rattle.cic_rules.specs.Runs.{Ran, Run, ◌>>=◌, pure, Turn, Final, GoOn}
 use Rattle.cic_rules.specs.Grounded.{used_at, is_assumption, axioms, Reaches}
 
@@ -135,6 +137,11 @@ pub record IsCheckedIn (env : List Slot) (c : CheckedInductive) : Type 0 where
 
 abbrev pub ScopeOfInductives : Type 0
 ScopeOfInductives = (env : List Slot) → IsEnvironment env → (c : CheckedInductive) → IsChecked env c → IsCheckedIn env c
+
+-- and its entries may be entered, where none is too large
+abbrev pub CheckedMayEnter : Type 0
+CheckedMayEnter = (env : List Slot) → IsEnvironment env → (c : CheckedInductive) → IsChecked env c → (entries : List Entry) →
+    eliminators env c ≡ Ok entries → MayEnterFamily env c.decl entries
 
 -- what an environment tells is in scope everywhere: types, bodies and declarations
 pub record ScopeOfGlobals : Type 0 where
