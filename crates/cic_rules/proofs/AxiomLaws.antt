@@ -1,7 +1,8 @@
 -- The axioms of an entry ascend.
 use Rattle.std.proofs.Common.{ℕ, zero, suc, ◌<◌, List, [], ◌∷◌, ◌++◌, Bool, true, false, cond, arith}
+use Rattle.term_spine.specs.Globals.{has, AreBehind, IsAscending}
 use Rattle.cic_rules.specs.declared.env.Slot.{Slot}
-use Rattle.cic_rules.specs.Scopes.{has, AreBefore, AreBehind, IsAscending}
+use Rattle.cic_rules.specs.Scopes.{AreBefore}
 use Rattle.cic_rules.specs.Infer.{union}
 use Rattle.cic_rules.specs.Grounded.{used_at, reached, assumptions, is_assumption}
 use Rattle.cic_rules.specs.Laws.{AxiomsAscend}

@@ -3,6 +3,9 @@ use Rattle.std.proofs.Common.{◌≡◌, ℕ, zero, suc, ◌+◌, ◌≤◌, Lis
 use Rattle.std.specs.Prelude.{if◌then◌else◌}
 use Rattle.core_term.specs.declared.sorts.Sort.{Sort}
 use Rattle.core_term.specs.Tree.{Tree, Var, Sorted, Constant, Prod, App}
+use Rattle.term_spine.specs.Globals.{mentions}
+use Rattle.term_spine.specs.Instantiate.{instantiate_all, values_under}
+use Rattle.term_spine.specs.Spine.{arguments_of, apply_all, shift, shift_all, eta_body, variables_of}
 use Rattle.cic_rules.specs.declared.context.Hyp.{Hyp}
 use Rattle.cic_rules.specs.declared.decls.Ctor.{Ctor}
 use Rattle.cic_rules.specs.declared.decls.InductiveDecl.{InductiveDecl}
@@ -10,7 +13,6 @@ use Rattle.cic_rules.specs.declared.env.Slot.{Slot}
 use Rattle.cic_rules.specs.Scopes.{IsScoped, AreScoped}
 use Rattle.cic_rules.specs.Contexts.{products_over}
 use Rattle.cic_rules.specs.Environments.{AreScopedCtors}
-use Rattle.cic_rules.specs.Rows.{arguments_of, apply_all, mentions, shift, shift_all, eta_body, variables_of, instantiate_all, values_under}
 use Rattle.cic_rules.specs.Families.{count_params, indices, newest_first}
 use Rattle.cic_rules.specs.Eliminators.{is_in_prop, argument_name, hypothesis_name, case_name, value_name, hyp_names, MOTIVE, Scope, with_argument, with_binder, of_value, hypothesis, case_argument, case_type, conclusion, motive_type, at_params, cases, eliminator_type}
 use Rattle.cic_rules.proofs.ScopeLaws.{scoped_drop, scoped_arguments, scoped_apply_all, scoped_shift, scoped_eta, scoped_shift_all, length_shift_all, scoped_under, length_under, scoped_instantiate, scoped_instantiate_all}

@@ -11,6 +11,7 @@ use Rattle.base_core.specs.declared.refusals.Limit.TheVariants.{SizeLimit}
 use Rattle.shared_map.proofs.EntriesLaws.{look-last}
 use Rattle.core_term.specs.declared.sorts.Sort.{Sort}
 use Rattle.core_term.specs.declared.sorts.Sort.TheVariants.{PropSort, SetSort, TypeSort}
+use Rattle.term_spine.specs.Spine.{end_of_products}
 use Rattle.cic_rules.specs.declared.decls.Ctor.{Ctor}
 use Rattle.cic_rules.specs.declared.decls.InductiveDecl.{InductiveDecl}
 use Rattle.cic_rules.specs.declared.entries.Entry.{Entry}
@@ -19,7 +20,6 @@ use Rattle.cic_rules.specs.declared.families.CheckedInductive.{CheckedInductive}
 use Rattle.cic_rules.specs.Contexts.{products_over}
 use Rattle.cic_rules.specs.Scopes.{AreNames}
 use Rattle.cic_rules.specs.Environments.{numbered, place_in, is_there, is_taken, IsNew, AreNew, AreSlots, AreScopedCtors, slotted, entered}
-use Rattle.cic_rules.specs.Rows.{end_of_products}
 use Rattle.cic_rules.specs.Eliminators.{same_name, has_name, eliminator_name, type_slot, ctor_entries, eliminator_entries, family_entries}
 use Rattle.cic_rules.specs.EnterFamily.{sorts_shown, used_shown, MayEnterFamily}
 use Rattle.cic_rules.specs.Infer.{union, sort_of_at}

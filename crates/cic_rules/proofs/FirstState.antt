@@ -4,6 +4,7 @@ use Rattle.base_core.specs.declared.refusals.Stop.{Stop}
 use Rattle.core_term.specs.declared.sorts.Sort.{Sort}
 use Rattle.core_term.specs.declared.sorts.Sort.TheVariants.{PropSort, SetSort, TypeSort}
 use Rattle.core_term.specs.Tree.{Tree, Var, Sorted, Constant, Prod, Lam, App}
+use Rattle.term_spine.specs.Spine.{apply_all}
 use Rattle.cic_rules.specs.declared.context.Hyp.{Hyp}
 use Rattle.cic_rules.specs.declared.decls.Decl.{Decl}
 use Rattle.cic_rules.specs.declared.decls.Decl.TheVariants.{Define, Induct}
@@ -21,7 +22,6 @@ use Rattle.cic_rules.specs.Convert.{conv_at, blocker_at}
 use Rattle.cic_rules.specs.Infer.{infer_at}
 use Rattle.cic_rules.specs.Inductive.{row_at, assumed_type}
 use Rattle.cic_rules.specs.Declare.{declare_at}
-use Rattle.cic_rules.specs.Rows.{apply_all}
 
 -- declarations one after the other
 abbrev declare_all : List Decl → List Slot → Run (List Slot)

@@ -6,19 +6,20 @@ use Rattle.base_core.specs.declared.refusals.Stop.TheVariants.{Out}
 use Rattle.base_core.specs.declared.refusals.Limit.TheVariants.{SizeLimit}
 use Rattle.core_term.specs.declared.sorts.Sort.{Sort}
 use Rattle.core_term.specs.Tree.{Tree, Var, Sorted, Constant, Prod, Lam, LetIn, App}
+use Rattle.term_spine.specs.Globals.{has, AreBehind, IsAscending, globals_of, with_place, places_in}
+use Rattle.term_spine.specs.Spine.{end_of_products}
 use Rattle.cic_rules.specs.declared.context.Hyp.{Hyp}
 use Rattle.cic_rules.specs.declared.decls.Ctor.{Ctor}
 use Rattle.cic_rules.specs.declared.decls.InductiveDecl.{InductiveDecl}
 use Rattle.cic_rules.specs.declared.env.Slot.{Slot}
 use Rattle.cic_rules.specs.declared.families.CheckedInductive.{CheckedInductive}
-use Rattle.cic_rules.specs.Scopes.{has, AreBefore, AreBehind, IsAscending, IsScoped, IsScopedIfAny, IsScopedContext, UsesOnly, UseOnly, AreNames, IsJudged}
+use Rattle.cic_rules.specs.Scopes.{AreBefore, IsScoped, IsScopedIfAny, IsScopedContext, UsesOnly, UseOnly, AreNames, IsJudged}
 use Rattle.cic_rules.specs.Contexts.{plain_hyp, products_over}
-use Rattle.cic_rules.specs.Environments.{own_slot, globals_of, without, hyp_types, ctor_types, decl_terms, AreScopedCtors, IsEnvironment, entered}
-use Rattle.cic_rules.specs.Rows.{end_of_products}
+use Rattle.cic_rules.specs.Environments.{own_slot, without, hyp_types, ctor_types, decl_terms, AreScopedCtors, IsEnvironment, entered}
 use Rattle.cic_rules.specs.Infer.{union}
 use Rattle.cic_rules.specs.Families.{count_indices}
 use Rattle.cic_rules.specs.Eliminators.{type_of_decl}
-use Rattle.cic_rules.specs.Inductive.{Opened, opened, CtorSorts, ctor_sorts, open_params, rows_of, with_place, places_in, assumed_type, is_constructors, params_of, are_positive, rows_fit, sort_at_end, has_twice, names_of, any_taken, checked, check_family, check_inductive_at}
+use Rattle.cic_rules.specs.Inductive.{Opened, opened, CtorSorts, ctor_sorts, open_params, rows_of, assumed_type, is_constructors, params_of, are_positive, rows_fit, sort_at_end, has_twice, names_of, any_taken, checked, check_family, check_inductive_at}
 use Rattle.cic_rules.specs.Runs.{check_size, require, forbid}
 use Rattle.cic_rules.specs.Laws.{Tells, IsCheckedIn, ScopeOfInductives}
 use Rattle.cic_rules.proofs.TellsLaws.{tells_give, tells_pure, tells_bind, tells_step, tells_some, tells_within}

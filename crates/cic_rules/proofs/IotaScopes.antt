@@ -2,6 +2,9 @@
 use Rattle.std.proofs.Common.{◌≡◌, ℕ, zero, suc, ◌+◌, ◌<◌, ◌≤◌, ◌==◌, List, [], ◌∷◌, length, take, drop, Bool, true, false, Option, Some, None, refl, sym, ap, ◌∙◌, subst, arith}
 use Rattle.std.specs.Prelude.{if◌then◌else◌, slice_get}
 use Rattle.core_term.specs.Tree.{Tree, Constant, Prod}
+use Rattle.term_spine.specs.Globals.{mentions}
+use Rattle.term_spine.specs.Instantiate.{instantiate_all, values_under}
+use Rattle.term_spine.specs.Spine.{head_of, arguments_of, apply_all, count_products, shift, eta_body}
 use Rattle.cic_rules.specs.declared.decls.Ctor.{Ctor}
 use Rattle.cic_rules.specs.declared.decls.InductiveDecl.{InductiveDecl}
 use Rattle.cic_rules.specs.declared.entries.Entry.{Entry}
@@ -9,7 +12,6 @@ use Rattle.cic_rules.specs.declared.entries.EntryKind.{EntryKind}
 use Rattle.cic_rules.specs.declared.entries.EntryKind.TheVariants.{Assumed, Admitted, Defined, Inductive, Constructor, Eliminator}
 use Rattle.cic_rules.specs.declared.env.Slot.{Slot}
 use Rattle.cic_rules.specs.Environments.{entry_at, decl_at, IsEnvironment, AreScopedCtors}
-use Rattle.cic_rules.specs.Rows.{head_of, arguments_of, apply_all, count_products, mentions, shift, eta_body, instantiate_all, values_under}
 use Rattle.cic_rules.specs.Families.{Family, count_params, count_fixed, major_index, family_at, eliminated, eliminated_by, eliminator_of, constructor_of, newest_first, indices, recursive_call, case_applied_to, case_applied, iota_result, iota_case, iota_ctor, iota_index, iota_family, iota}
 use Rattle.cic_rules.specs.Scopes.{IsScoped, AreScoped}
 use Rattle.cic_rules.proofs.ScopeLaws.{scoped_drop, scoped_take, scoped_get, scoped_arguments, scoped_apply_all, scoped_shift, scoped_eta, scoped_under, length_under, scoped_instantiate, scoped_instantiate_all}

@@ -2,13 +2,13 @@
 use Rattle.std.specs.Prelude.{if◌then◌else◌}
 use Rattle.std.proofs.Common.{ℕ, zero, suc, ◌≤◌, List, ◌∷◌, Bool, true, false, Option, Some, None, arith}
 use Rattle.core_term.specs.Tree.{Tree, Var, Sorted, Constant, Prod, Lam, LetIn}
+use Rattle.term_spine.specs.Spine.{head_of, arguments_of}
 use Rattle.cic_rules.specs.declared.context.Hyp.{Hyp}
 use Rattle.cic_rules.specs.declared.env.Slot.{Slot}
 use Rattle.cic_rules.specs.declared.judge.Mode.{Mode}
 use Rattle.cic_rules.specs.declared.judge.Mode.TheVariants.{Same}
 use Rattle.cic_rules.specs.Contexts.{value_of_variable}
 use Rattle.cic_rules.specs.Environments.{body_of_global}
-use Rattle.cic_rules.specs.Rows.{head_of, arguments_of}
 use Rattle.cic_rules.specs.Families.{major_premise}
 use Rattle.cic_rules.specs.Runs.{Run}
 use Rattle.cic_rules.specs.Reduce.{Redex, Stuck, Reduces, OnMajor, unfolded, global_redex, redex_of, contract, contract_iota, reduce_redex, reduce_step, whnf_at}

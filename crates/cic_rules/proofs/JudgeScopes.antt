@@ -7,6 +7,8 @@ use Rattle.base_core.specs.declared.refusals.Limit.TheVariants.{DepthLimit}
 use Rattle.core_term.specs.Sorts.{sort_of_product}
 use Rattle.core_term.specs.Tree.{Tree, Var, Sorted, Constant, Prod, Lam, LetIn, App, same_tree}
 use Rattle.core_term.specs.Places.{subst_of}
+use Rattle.term_spine.specs.Globals.{has}
+use Rattle.term_spine.specs.Spine.{head_of, arguments_of}
 use Rattle.cic_rules.specs.declared.context.Hyp.{Hyp}
 use Rattle.cic_rules.specs.declared.env.Slot.{Slot}
 use Rattle.cic_rules.specs.declared.judge.Mode.{Mode}
@@ -14,9 +16,8 @@ use Rattle.cic_rules.specs.declared.judge.Inferred.{Inferred}
 use Rattle.cic_rules.specs.declared.judge.Arrow.{Arrow}
 use Rattle.cic_rules.specs.Contexts.{plain_hyp, defined_hyp, type_of_variable, value_of_variable}
 use Rattle.cic_rules.specs.Environments.{body_of_global, type_of_global, IsEnvironment}
-use Rattle.cic_rules.specs.Rows.{head_of, arguments_of}
 use Rattle.cic_rules.specs.Families.{Family, major_index, value_among, eliminator_of, major_premise, iota}
-use Rattle.cic_rules.specs.Scopes.{IsScoped, AreScoped, IsScopedIfAny, IsScopedContext, has, AreNames, IsJudged}
+use Rattle.cic_rules.specs.Scopes.{IsScoped, AreScoped, IsScopedIfAny, IsScopedContext, AreNames, IsJudged}
 use Rattle.cic_rules.specs.Runs.{Ran, Run, and_then, spend, check_size, Final, GoOn}
 use Rattle.cic_rules.specs.Reduce.{Redex, Stuck, Reduces, OnMajor, unfolded, global_redex, redex_of, contract, contract_iota, reduce_redex, reduce_step, whnf_at}
 use Rattle.cic_rules.specs.Convert.{compare_cost, conv_at}

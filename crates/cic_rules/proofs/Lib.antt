@@ -14,10 +14,12 @@ pub mod JudgeScopes
 pub mod NamesLaws
 pub mod PlaceLaws
 pub mod ReachLaws
+pub mod RowCalls
 pub mod RowLaws
 pub mod Samples
 pub mod RunsLaws
 pub mod ScopeLaws
 pub mod ShapeLaws
 pub mod TellsLaws
+pub mod UnionLaws
 pub mod UsedLaws

@@ -1,8 +1,9 @@
 -- What an entry's list of reached places holds.
 use Rattle.std.proofs.Common.{◌≡◌, ℕ, zero, suc, ◌+◌, ◌<◌, ◌≤◌, ◌==◌, nat_lt, List, [], ◌∷◌, ◌++◌, length, Bool, true, false, cond, refl, arith}
 use Rattle.std.proofs.lemmas.Bool.Decides.{nat_tests}
+use Rattle.term_spine.specs.Globals.{has}
 use Rattle.cic_rules.specs.declared.env.Slot.{Slot}
-use Rattle.cic_rules.specs.Scopes.{has, AreBefore}
+use Rattle.cic_rules.specs.Scopes.{AreBefore}
 use Rattle.cic_rules.specs.Environments.{AreSlots}
 use Rattle.cic_rules.specs.Infer.{merge_in, union}
 use Rattle.cic_rules.specs.Grounded.{used_at, reached, assumptions, is_assumption, axioms, Reaches, Uses, UsesFurther}

@@ -4,7 +4,8 @@ use Rattle.std.specs.Prelude.{if◌then◌else◌, slice_get}
 use Rattle.std.proofs.lemmas.Bool.Decides.{nat_tests}
 use Rattle.core_term.specs.Tree.{Tree, Var, Sorted, Constant, Prod, Lam, LetIn, App, free_bound}
 use Rattle.core_term.specs.Places.{lift_of, subst_of}
-use Rattle.cic_rules.specs.Rows.{head_of, arguments_of, apply_all, shift, shift_all, eta_body, instantiated_variable, instantiate_under, instantiate, instantiate_all, values_under}
+use Rattle.term_spine.specs.Instantiate.{instantiated_variable, instantiate_under, instantiate, instantiate_all, values_under}
+use Rattle.term_spine.specs.Spine.{head_of, arguments_of, apply_all, shift, shift_all, eta_body}
 use Rattle.cic_rules.specs.Scopes.{IsScoped, AreScoped}
 use Rattle.cic_rules.specs.Laws.{ScopeOfTerms}
 

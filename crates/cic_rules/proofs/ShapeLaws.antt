@@ -1,9 +1,9 @@
 -- What is told once of each inductive type, beside the environment.
 use Rattle.std.proofs.Common.{◌≡◌, ℕ, zero, suc, ◌+◌, List, [], ◌∷◌, ◌++◌, length, Bool, true, false, ◌||◌, Option, refl, sym, ap, ◌∙◌, arith}
 use Rattle.std.specs.Prelude.{slice_get, ◌==◌, if◌then◌else◌}
+use Rattle.term_spine.specs.Globals.{has}
 use Rattle.cic_rules.specs.declared.env.Slot.{Slot}
 use Rattle.cic_rules.specs.declared.shapes.FamilyShape.{FamilyShape}
-use Rattle.cic_rules.specs.Scopes.{has}
 use Rattle.cic_rules.specs.Environments.{slot_decl, decl_at}
 use Rattle.cic_rules.specs.Shapes.{shape_if_any, shape_at, shapes_from, kept_shape, AreShapes}
 

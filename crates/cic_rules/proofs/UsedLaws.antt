@@ -3,8 +3,9 @@ use Rattle.std.proofs.Common.{◌≡◌, ℕ, zero, suc, ◌+◌, ◌<◌, ◌�
 use Rattle.std.specs.Prelude.{IsTrue, if◌then◌else◌}
 use Rattle.std.proofs.lemmas.Bool.Decides.{nat_tests}
 use Rattle.core_term.specs.Tree.{Tree, Var, Sorted, Constant, Prod, Lam, LetIn, App}
+use Rattle.term_spine.specs.Globals.{has, AreBehind, IsAscending}
 use Rattle.cic_rules.specs.Infer.{merge_in, union}
-use Rattle.cic_rules.specs.Scopes.{has, AreBefore, AreBehind, IsAscending, UsesOnly, AreNames}
+use Rattle.cic_rules.specs.Scopes.{AreBefore, UsesOnly, AreNames}
 use Rattle.cic_rules.proofs.ReachLaws.{merged_first, merged_second}
 
 pub behind_more : (p q : ℕ) (ps : List ℕ) → p ≤ q → AreBehind q ps → AreBehind p ps

@@ -4,13 +4,13 @@ use Rattle.base_core.specs.declared.refusals.Limit.TheVariants.{DepthLimit}
 use Rattle.core_term.specs.declared.sorts.Sort.{Sort}
 use Rattle.core_term.specs.Sorts.{sort_below}
 use Rattle.core_term.specs.Tree.{Tree, Var, Sorted, Constant, Prod, Lam, size_of, same_sort, same_tree}
+use Rattle.term_spine.specs.Spine.{head_of, arguments_of, apply_all, eta_body}
 use Rattle.cic_rules.specs.declared.context.Hyp.{Hyp}
 use Rattle.cic_rules.specs.declared.env.Slot.{Slot}
 use Rattle.cic_rules.specs.declared.judge.Mode.{Mode}
 use Rattle.cic_rules.specs.declared.judge.Mode.TheVariants.{Same, Below}
 use Rattle.cic_rules.specs.Contexts.{extended, plain_hyp}
 use Rattle.cic_rules.specs.Environments.{body_of_global}
-use Rattle.cic_rules.specs.Rows.{head_of, arguments_of, apply_all, eta_body}
 use Rattle.cic_rules.specs.Families.{Family, major_premise, eliminator_of, replace_major, major_index}
 use Rattle.cic_rules.specs.Reduce.{whnf_at}
 use Rattle.cic_rules.specs.Runs.{Run, ◌>>=◌, ◌>>◌, give, pure, out_of, spend, check_size, Turn, Final, GoOn, runs}

@@ -4,12 +4,12 @@ use Rattle.core_term.specs.declared.sorts.Sort.{Sort}
 use Rattle.core_term.specs.Sorts.{sort_below, sort_of_product}
 use Rattle.core_term.specs.Tree.{Tree, Var, Sorted, Constant, Prod, Lam, LetIn, App, same_tree}
 use Rattle.core_term.specs.Places.{subst_of}
+use Rattle.term_spine.specs.Globals.{has}
+use Rattle.term_spine.specs.Spine.{apply_all, eta_body}
 use Rattle.cic_rules.specs.declared.context.Hyp.{Hyp}
 use Rattle.cic_rules.specs.declared.env.Slot.{Slot}
 use Rattle.cic_rules.specs.Contexts.{plain_hyp, defined_hyp, type_of_variable, value_of_variable}
-use Rattle.cic_rules.specs.Scopes.{has}
 use Rattle.cic_rules.specs.Environments.{type_of_global, body_of_global}
-use Rattle.cic_rules.specs.Rows.{apply_all, eta_body}
 use Rattle.cic_rules.specs.Families.{major_premise, iota}
 use Rattle.cic_rules.specs.Infer.{type_of_sort}
 

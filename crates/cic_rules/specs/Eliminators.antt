@@ -4,6 +4,9 @@ use Rattle.std.specs.Cmp.Lexicographic.{pointwise}
 use Rattle.core_term.specs.declared.sorts.Sort.{Sort}
 use Rattle.core_term.specs.declared.sorts.Sort.TheVariants.{PropSort, SetSort, TypeSort}
 use Rattle.core_term.specs.Tree.{Tree, Var, Sorted, Constant, Prod, App}
+use Rattle.term_spine.specs.Globals.{mentions}
+use Rattle.term_spine.specs.Instantiate.{instantiate, instantiate_all, values_under}
+use Rattle.term_spine.specs.Spine.{head_of, apply_all, end_of_products, shift, shift_all, eta_body, variables_of}
 use Rattle.cic_rules.specs.declared.context.Hyp.{Hyp}
 use Rattle.cic_rules.specs.declared.decls.InductiveDecl.{InductiveDecl}
 use Rattle.cic_rules.specs.declared.decls.Ctor.{Ctor}
@@ -12,7 +15,6 @@ use Rattle.cic_rules.specs.declared.entries.EntryKind.TheVariants.{Inductive, Co
 use Rattle.cic_rules.specs.declared.env.Slot.{Slot}
 use Rattle.cic_rules.specs.Contexts.{products_over}
 use Rattle.cic_rules.specs.Environments.{decl_at}
-use Rattle.cic_rules.specs.Rows.{head_of, apply_all, end_of_products, mentions, shift, shift_all, eta_body, variables_of, instantiate, instantiate_all, values_under}
 use Rattle.cic_rules.specs.Families.{count_params, count_ctors, indices, newest_first}
 
 -- one name

@@ -6,7 +6,7 @@ use Rattle.base_core.specs.declared.refusals.Stop.{Stop}
 use Rattle.base_core.specs.declared.refusals.Stop.TheVariants.{Out}
 use Rattle.base_core.specs.declared.refusals.Limit.TheVariants.{SizeLimit}
 use Rattle.shared_map.specs.Entries.{look}
-use Rattle.core_term.specs.Tree.{Tree, Var, Sorted, Constant, Prod, Lam, LetIn, App}
+use Rattle.core_term.specs.Tree.{Tree}
 use Rattle.cic_rules.specs.declared.context.Hyp.{Hyp}
 use Rattle.cic_rules.specs.declared.decls.InductiveDecl.{InductiveDecl}
 use Rattle.cic_rules.specs.declared.decls.Ctor.{Ctor}
@@ -82,16 +82,6 @@ own_slot e = record { entry = e; decl = None }
 abbrev pub AreNew : List Slot → List Slot → Type 0
 AreNew env [] = Unit {0}
 AreNew env (s ∷ ss) = IsNew env s.entry.name × AreNew (env ++ (s ∷ [])) ss
-
--- the places of the globals in a term, as often as they stand there
-abbrev pub globals_of : Tree → List ℕ
-globals_of (Var _) = []
-globals_of (Sorted _) = []
-globals_of (Constant c) = c ∷ []
-globals_of (Prod _ a b) = globals_of a ++ globals_of b
-globals_of (Lam _ a b) = globals_of a ++ globals_of b
-globals_of (LetIn _ a t b) = globals_of a ++ (globals_of t ++ globals_of b)
-globals_of (App f a) = globals_of f ++ globals_of a
 
 -- the places without one of them
 abbrev pub without : ℕ → List ℕ → List ℕ

@@ -1,6 +1,9 @@
 -- Inductive types as reduction sees them: their constructors, their eliminators, and the iota rule.
 use Rattle.std.specs.Prelude.{ℕ, zero, suc, ◌+◌, ◌==◌, List, [], ◌∷◌, length, take, drop, Bool, true, false, Option, Some, None, if◌then◌else◌, slice_get}
 use Rattle.core_term.specs.Tree.{Tree, Constant, Prod, Lam, App}
+use Rattle.term_spine.specs.Globals.{mentions}
+use Rattle.term_spine.specs.Instantiate.{instantiate, instantiate_all, values_under}
+use Rattle.term_spine.specs.Spine.{head_of, arguments_of, apply_all, count_products, shift, eta_body}
 use Rattle.cic_rules.specs.declared.decls.InductiveDecl.{InductiveDecl}
 use Rattle.cic_rules.specs.declared.decls.Ctor.{Ctor}
 use Rattle.cic_rules.specs.declared.entries.Entry.{Entry}
@@ -8,7 +11,6 @@ use Rattle.cic_rules.specs.declared.entries.EntryKind.{EntryKind}
 use Rattle.cic_rules.specs.declared.entries.EntryKind.TheVariants.{Constructor, Eliminator}
 use Rattle.cic_rules.specs.declared.env.Slot.{Slot}
 use Rattle.cic_rules.specs.Environments.{entry_at, decl_at}
-use Rattle.cic_rules.specs.Rows.{head_of, arguments_of, apply_all, count_products, mentions, shift, eta_body, instantiate, instantiate_all, values_under}
 
 -- an inductive type: its place and its declaration
 pub record Family : Type 0 where

@@ -1,10 +1,12 @@
 -- Inductive declarations: their refusals in order, and the sorts that their eliminators may go into.
-use Rattle.std.specs.Prelude.{ℕ, zero, suc, ◌+◌, ◌==◌, nat_lt, List, [], ◌∷◌, ◌++◌, length, take, drop, Bool, true, false, ◌&&◌, Option, Some, None, if◌then◌else◌}
+use Rattle.std.specs.Prelude.{ℕ, zero, suc, ◌+◌, ◌==◌, List, [], ◌∷◌, ◌++◌, length, take, drop, Bool, true, false, ◌&&◌, Option, Some, None, if◌then◌else◌}
 use Rattle.base_core.specs.declared.refusals.Limit.TheVariants.{DepthLimit}
 use Rattle.core_term.specs.declared.sorts.Sort.{Sort}
 use Rattle.core_term.specs.declared.sorts.Sort.TheVariants.{PropSort, SetSort, TypeSort}
 use Rattle.core_term.specs.Sorts.{sort_below, sort_of_product}
 use Rattle.core_term.specs.Tree.{Tree, Sorted, Constant, Prod}
+use Rattle.term_spine.specs.Globals.{globals_of, mentions, any_mentions, places_in}
+use Rattle.term_spine.specs.Spine.{head_of, arguments_of, end_of_products, same_trees, shift_all, variables_of}
 use Rattle.cic_rules.specs.declared.context.Hyp.{Hyp}
 use Rattle.cic_rules.specs.declared.decls.InductiveDecl.{InductiveDecl}
 use Rattle.cic_rules.specs.declared.decls.Ctor.{Ctor}
@@ -15,8 +17,7 @@ use Rattle.cic_rules.specs.declared.judge.InferredSort.{InferredSort}
 use Rattle.cic_rules.specs.declared.families.RowSorts.{RowSorts}
 use Rattle.cic_rules.specs.declared.families.CheckedInductive.{CheckedInductive}
 use Rattle.cic_rules.specs.Contexts.{plain_hyp}
-use Rattle.cic_rules.specs.Environments.{entered, is_taken, without, globals_of}
-use Rattle.cic_rules.specs.Rows.{head_of, arguments_of, end_of_products, mentions, any_mentions, same_trees, shift_all, variables_of}
+use Rattle.cic_rules.specs.Environments.{entered, is_taken, without}
 use Rattle.cic_rules.specs.Families.{count_params, count_indices}
 use Rattle.cic_rules.specs.Convert.{with_hyp}
 use Rattle.cic_rules.specs.Infer.{union, sort_of_at}
@@ -156,16 +157,6 @@ permitted _ rows = ALL_SORTS
 abbrev pub sort_at_end : Tree → Option Sort
 sort_at_end (Sorted s) = Some s
 sort_at_end _ = None
-
--- a place among ascending ones, where it is not there yet
-abbrev pub with_place : ℕ → List ℕ → List ℕ
-with_place place [] = place ∷ []
-with_place place (p ∷ ps) = if nat_lt place p then place ∷ p ∷ ps else (if nat_lt p place then p ∷ with_place place ps else p ∷ ps)
-
--- the places of a list, ascending, each once
-abbrev pub places_in : List ℕ → List ℕ
-places_in [] = []
-places_in (p ∷ ps) = with_place p (places_in ps)
 
 -- the type as an assumption, while its constructors are judged: it uses the globals of its type
 abbrev pub assumed_type : InductiveDecl → Entry

@@ -4,6 +4,9 @@ use Rattle.base_core.specs.declared.refusals.Stop.TheVariants.{Out}
 use Rattle.base_core.specs.declared.refusals.Limit.TheVariants.{StepLimit}
 use Rattle.core_term.specs.Tree.{Tree, free_bound}
 use Rattle.core_term.specs.Places.{lift_of, subst_of}
+use Rattle.term_spine.specs.Globals.{has, IsAscending}
+use Rattle.term_spine.specs.Instantiate.{instantiate}
+use Rattle.term_spine.specs.Spine.{apply_all}
 use Rattle.cic_rules.specs.declared.context.Hyp.{Hyp}
 use Rattle.cic_rules.specs.declared.decls.Decl.{Decl}
 use Rattle.cic_rules.specs.declared.entries.Entry.{Entry}
@@ -13,11 +16,10 @@ use Rattle.cic_rules.specs.declared.families.CheckedInductive.{CheckedInductive}
 use Rattle.cic_rules.specs.declared.families.RowSorts.{RowSorts}
 use Rattle.cic_rules.specs.declared.judge.InferredSort.{InferredSort}
 use Rattle.cic_rules.specs.declared.judge.Mode.{Mode}
-use Rattle.cic_rules.specs.Scopes.{has, AreBefore, IsAscending, IsScoped, AreScoped, IsScopedContext, AreNames, UseOnly, IsJudged}
+use Rattle.cic_rules.specs.Scopes.{AreBefore, IsScoped, AreScoped, IsScopedContext, AreNames, UseOnly, IsJudged}
 use Rattle.cic_rules.specs.Judges.{IsInferredIn}
 use Rattle.cic_rules.specs.declared.decls.InductiveDecl.{InductiveDecl}
 use Rattle.cic_rules.specs.Contexts.{type_of_variable, value_of_variable, products_over}
-use Rattle.cic_rules.specs.Rows.{apply_all, instantiate}
 use Rattle.cic_rules.specs.Environments.{place_in, type_of_global, body_of_global, decl_at, decl_terms, AreScopedCtors, IsScopedDecl, IsEnvironment}
 use Rattle.cic_rules.specs.Derive.{WfContext, HasType}
 use Rattle.cic_rules.specs.Reduce.{whnf_at}

@@ -5,7 +5,6 @@ pub mod Names
 pub mod Fuel
 pub mod Runs
 pub mod Steps
-pub mod Rows
 pub mod Families
 pub mod Shapes
 pub mod Reduce
@@ -19,4 +18,5 @@ pub mod WellFormed
 pub mod Grounded
 pub mod EnterFamily
 pub mod Judges
+pub mod Calls
 pub mod Laws

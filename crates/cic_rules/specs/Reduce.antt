@@ -3,11 +3,11 @@ use Rattle.std.specs.Prelude.{ℕ, zero, suc, ◌+◌, List, ◌∷◌, Bool, Op
 use Rattle.base_core.specs.declared.refusals.Limit.TheVariants.{DepthLimit}
 use Rattle.core_term.specs.Tree.{Tree, Var, Constant, Lam, LetIn, size_of}
 use Rattle.core_term.specs.Places.{subst_of}
+use Rattle.term_spine.specs.Spine.{head_of, arguments_of, apply_all}
 use Rattle.cic_rules.specs.declared.context.Hyp.{Hyp}
 use Rattle.cic_rules.specs.declared.env.Slot.{Slot}
 use Rattle.cic_rules.specs.Contexts.{value_of_variable}
 use Rattle.cic_rules.specs.Environments.{body_of_global}
-use Rattle.cic_rules.specs.Rows.{head_of, arguments_of, apply_all}
 use Rattle.cic_rules.specs.Families.{major_premise, iota}
 use Rattle.cic_rules.specs.Runs.{Run, ◌>>=◌, ◌>>◌, pure, out_of, spend, check_size, Turn, Final, GoOn, runs}
 

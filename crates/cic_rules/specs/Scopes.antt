@@ -1,6 +1,7 @@
 -- What stands in scope: free variables among so many hypotheses, and globals among so many entries.
-use Rattle.std.specs.Prelude.{ℕ, suc, ◌<◌, List, [], ◌∷◌, length, Bool, true, false, IsTrue, Option, Some, None, if◌then◌else◌, ◌==◌}
+use Rattle.std.specs.Prelude.{ℕ, suc, ◌<◌, List, [], ◌∷◌, length, IsTrue, Option, Some, None}
 use Rattle.core_term.specs.Tree.{Tree, Var, Sorted, Constant, Prod, Lam, LetIn, App}
+use Rattle.term_spine.specs.Globals.{has, IsAscending}
 use Rattle.cic_rules.specs.declared.context.Hyp.{Hyp}
 
 -- a term with so many variables and globals to speak of
@@ -31,25 +32,10 @@ abbrev pub IsScopedContext : ℕ → List Hyp → Type 0
 IsScopedContext globals [] = Unit {0}
 IsScopedContext globals (h ∷ hs) = IsScopedHyp (length hs) globals h × IsScopedContext globals hs
 
--- the place is in the list
-abbrev pub has : List ℕ → ℕ → Bool
-has [] place = false
-has (p ∷ ps) place = if p == place then true else has ps place
-
 -- each of the places is before this one
 abbrev pub AreBefore : ℕ → List ℕ → Type 0
 AreBefore place [] = Unit {0}
 AreBefore place (p ∷ ps) = (p < place) × AreBefore place ps
-
--- each of the places is behind this one
-abbrev pub AreBehind : ℕ → List ℕ → Type 0
-AreBehind place [] = Unit {0}
-AreBehind place (p ∷ ps) = (place < p) × AreBehind place ps
-
--- the places ascend, so that each stands once
-abbrev pub IsAscending : List ℕ → Type 0
-IsAscending [] = Unit {0}
-IsAscending (p ∷ ps) = AreBehind p ps × IsAscending ps
 
 -- each global of the term is among these
 abbrev pub UsesOnly : List ℕ → Tree → Type 0

@@ -4,12 +4,12 @@ use Rattle.std.specs.Cmp.Lexicographic.{slice_cmp}
 use Rattle.std.specs.Ordering.{nat_cmp}
 use Rattle.shared_map.specs.Entries.{look, IsInOrder}
 use Rattle.core_term.specs.Tree.{Tree, Prod}
+use Rattle.term_spine.specs.Globals.{mentions}
 use Rattle.cic_rules.specs.declared.decls.Ctor.{Ctor}
 use Rattle.cic_rules.specs.declared.decls.InductiveDecl.{InductiveDecl}
 use Rattle.cic_rules.specs.declared.env.Slot.{Slot}
 use Rattle.cic_rules.specs.declared.shapes.FamilyShape.{FamilyShape}
 use Rattle.cic_rules.specs.Environments.{decl_at, place_in, IsEnvironment}
-use Rattle.cic_rules.specs.Rows.{mentions}
 use Rattle.cic_rules.specs.Families.{count_params, count_fixed, major_index}
 
 -- which arguments of a constructor have the type at a place in theirs

@@ -2,6 +2,7 @@
 use Rattle.std.specs.Prelude.{◌≡◌, ℕ, List, [], ◌∷◌, ◌++◌, length, Bool, false, Some, IsTrue}
 use Rattle.core_term.specs.declared.sorts.Sort.{Sort}
 use Rattle.core_term.specs.Tree.{Tree, Sorted, Prod}
+use Rattle.term_spine.specs.Spine.{count_products, end_of_products}
 use Rattle.cic_rules.specs.declared.context.Hyp.{Hyp}
 use Rattle.cic_rules.specs.declared.decls.InductiveDecl.{InductiveDecl}
 use Rattle.cic_rules.specs.declared.decls.Ctor.{Ctor}
@@ -12,7 +13,6 @@ use Rattle.cic_rules.specs.declared.env.Slot.{Slot}
 use Rattle.cic_rules.specs.Contexts.{plain_hyp}
 use Rattle.cic_rules.specs.Scopes.{AreBefore}
 use Rattle.cic_rules.specs.Environments.{own_slot, slotted}
-use Rattle.cic_rules.specs.Rows.{count_products, end_of_products}
 use Rattle.cic_rules.specs.Families.{count_indices}
 use Rattle.cic_rules.specs.Eliminators.{family_entries}
 use Rattle.cic_rules.specs.Inductive.{has_twice, names_of, any_taken, is_constructors, are_positive, rows_fit, permitted, params_of, assumed_type}

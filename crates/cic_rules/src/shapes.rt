@@ -2,7 +2,8 @@
 
 ghost use Rattle.std.specs.Prelude.{◌≡◌, ◌≤◌, ◌++◌, IfOk, OnOk};
 ghost use Rattle.core_term.specs.Tree.{depth_of};
-ghost use Rattle.cic_rules.specs.Rows.{mentions as is_mentioned, count_products as products_of};
+ghost use Rattle.term_spine.specs.Globals.{mentions as is_mentioned};
+ghost use Rattle.term_spine.specs.Spine.{count_products as products_of};
 ghost use Rattle.cic_rules.specs.Shapes.{recursive_of, recursive_in, shape_of as shape, shape_if_any as any_shape};
 
 use crate::decls::{Ctor, InductiveDecl};
