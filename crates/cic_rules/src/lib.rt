@@ -20,6 +20,7 @@ pub use families::{CheckedInductive, RowSorts, SortList};
 pub use fuel::Fuel;
 pub use judge::{Answer, Arrow, Declares, Inferred, InferredSort, Judge, Mode};
 pub use laws::{
-    law_of_axioms, law_of_families, law_of_fuel, law_of_names, law_of_rows, law_of_scopes,
+    law_of_axioms, law_of_declarations, law_of_families, law_of_fuel, law_of_names, law_of_rows,
+    law_of_scopes,
 };
 pub use shapes::FamilyShape;
