@@ -24,13 +24,13 @@ use Rattle.cic_rules.specs.Eliminators.{same_name, has_name, eliminator_name, ty
 use Rattle.cic_rules.specs.EnterFamily.{sorts_shown, used_shown, MayEnterFamily}
 use Rattle.cic_rules.specs.Infer.{union, sort_of_at}
 use Rattle.cic_rules.specs.Inductive.{assumed_type, has_twice, ctor_names, names_of, any_taken, ALL_SORTS, permitted, are_props, open_params, rows_of, checked, check_family, check_inductive_at, sort_at_end, params_of, are_positive, rows_fit}
-use Rattle.cic_rules.specs.Declare.{are_small, types_of}
+use Rattle.cic_rules.specs.Declare.{IsChecked, are_small, types_of}
 use Rattle.cic_rules.specs.Runs.{Run, give, check_size, require, some_or}
 use Rattle.cic_rules.specs.Eliminators.{type_of_decl}
 use Rattle.cic_rules.specs.Laws.{Tells, IsCheckedIn, CheckedMayEnter}
 use Rattle.cic_rules.proofs.TellsLaws.{tells_pure, tells_bind, tells_step, tells_forbid}
 use Rattle.cic_rules.proofs.ScopeLaws.{scoped_more}
-use Rattle.cic_rules.proofs.PlaceLaws.{place_in-last}
+use Rattle.cic_rules.proofs.PlaceLaws.{place_in-last, not_there}
 use Rattle.cic_rules.proofs.EliminatorScopes.{scoped_over, scoped_eliminator}
 use Rattle.cic_rules.proofs.InductiveScopes.{scope_of_inductives}
 
@@ -61,10 +61,6 @@ compared [] [] = refl
 compared [] (y ∷ ys) = refl
 compared (x ∷ xs) [] = refl
 compared (x ∷ xs) (y ∷ ys) = same_by (nat_lt x y) (x == y) x y (slice_cmp nat_cmp xs ys) (same_name xs ys) refl refl (compared xs ys)
-
-not_there : (found : Option ℕ) → is_there found ≡ false → found ≡ None
-not_there None e = refl
-not_there (Some place) e = cc
 
 none_there : (found : Option ℕ) → found ≡ None → is_there found ≡ false
 none_there found e = ap is_there e
@@ -205,6 +201,15 @@ tested env calls d =
           sorts = h.1;
         },
       )
+
+-- what the test gives is of the declaration that was tested
+pub checked_decl : (env : List Slot) (calls : ℕ) (d : InductiveDecl) → Tells (check_inductive_at env calls d) (λ c. (c.decl ≡ d) × IsChecked env c)
+checked_decl env calls d =
+    record {
+      tells = λ left c e.
+          let same = ((tested env calls d).tells left c e).0 in
+          (same, record { calls = calls; units = left; given = ap (λ x. (check_inductive_at env calls x left).answer) same ∙ e });
+    }
 
 names_new : (env : List Slot) (c : CheckedInductive) → IsTested env c →
     (has_twice (c.decl.name ∷ (ctor_names c.decl.ctors ++ sort_names c.decl c.sorts)) ≡ false)

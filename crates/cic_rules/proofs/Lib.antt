@@ -1,5 +1,6 @@
 pub mod AxiomLaws
 pub mod ContextLaws
+pub mod DeclareLaws
 pub mod EliminatorScopes
 pub mod EnvironmentScopes
 pub mod FamilyLaws
@@ -11,6 +12,7 @@ pub mod InferFuelLaws
 pub mod IotaScopes
 pub mod JudgeFuelLaws
 pub mod JudgeScopes
+pub mod LawSamples
 pub mod NamesLaws
 pub mod PlaceLaws
 pub mod ReachLaws

@@ -15,7 +15,7 @@ use Rattle.cic_rules.specs.declared.entries.EntryKind.TheVariants.{Assumed, Admi
 use Rattle.cic_rules.specs.declared.env.Slot.{Slot}
 use Rattle.cic_rules.specs.Names.{rank_of}
 use Rattle.cic_rules.specs.Laws.{FoundPlacesAreThere}
-use Rattle.cic_rules.specs.Environments.{numbered, place_in, own_slot, slotted, terms_of, Covers, IsFamilyIfAny, IsOwn, IsNew, IsSlotAt, AreSlots, IsEnvironment, MayEnter}
+use Rattle.cic_rules.specs.Environments.{numbered, place_in, is_there, own_slot, slotted, terms_of, Covers, IsFamilyIfAny, IsOwn, IsNew, IsSlotAt, AreSlots, IsEnvironment, MayEnter}
 use Rattle.cic_rules.specs.declared.shapes.FamilyShape.{FamilyShape}
 use Rattle.cic_rules.specs.Shapes.{shape_if_any, IsKept}
 use Rattle.cic_rules.specs.Scopes.{UseOnly}
@@ -110,3 +110,8 @@ place_by n (s ∷ ss) name place e = place_split (is_eq (slice_cmp nat_cmp name 
 -- a name that is found is that of a global
 pub place_below : FoundPlacesAreThere
 place_below env name place e = let below = place_by 0 env name place e in omega (arith, below)
+
+-- a name that is not taken is new
+pub not_there : (found : Option ℕ) → is_there found ≡ false → found ≡ None
+not_there None e = refl
+not_there (Some place) e = cc

@@ -18,14 +18,14 @@ use Rattle.cic_rules.specs.Convert.{conv_at, blocker_at}
 use Rattle.cic_rules.specs.Infer.{infer_at, inferred}
 
 -- the name x
-abbrev X : List ℕ
+abbrev pub X : List ℕ
 X = (120 ∷ [])
 
 -- the environment of the assumption A : Prop, which stands at place 0
-abbrev ASSUMED : List Slot
+abbrev pub ASSUMED : List Slot
 ASSUMED = own_slot (record { name = (65 ∷ []); ty = Sorted PropSort; kind = Assumed; used = [] }) ∷ []
 
-abbrev A : Tree
+abbrev pub A : Tree
 A = Constant 0
 
 -- let x : Prop := A in x
@@ -39,7 +39,7 @@ unfolding repeat whnf_at conv_at blocker_at
 conv_beta = refl
 
 -- .. and with two units alone
-conv_poor : conv_at ASSUMED 2000 [] Same (App (Lam X (Sorted PropSort) (Var 0)) A) A 2 ≡ out_of StepLimit 0
+pub conv_poor : conv_at ASSUMED 2000 [] Same (App (Lam X (Sorted PropSort) (Var 0)) A) A 2 ≡ out_of StepLimit 0
 unfolding repeat whnf_at conv_at blocker_at
 conv_poor = refl
 
@@ -68,7 +68,7 @@ unfolding repeat whnf_at conv_at infer_at
 infer_product = refl
 
 -- fun x : A => x
-infer_identity : infer_at ASSUMED 2000 [] (Lam X A (Var 0)) 1000000 ≡ pure (inferred (Prod X A A) (0 ∷ [])) 999996
+pub infer_identity : infer_at ASSUMED 2000 [] (Lam X A (Var 0)) 1000000 ≡ pure (inferred (Prod X A A) (0 ∷ [])) 999996
 unfolding repeat whnf_at conv_at infer_at
 infer_identity = refl
 

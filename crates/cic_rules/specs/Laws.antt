@@ -10,6 +10,7 @@ use Rattle.term_spine.specs.Spine.{apply_all}
 use Rattle.cic_rules.specs.declared.context.Hyp.{Hyp}
 use Rattle.cic_rules.specs.declared.decls.Decl.{Decl}
 use Rattle.cic_rules.specs.declared.entries.Entry.{Entry}
+use Rattle.cic_rules.specs.declared.entries.EntryKind.TheVariants.{Assumed, Admitted, Defined}
 use Rattle.cic_rules.specs.declared.env.Slot.{Slot}
 use Rattle.cic_rules.specs.EnterFamily.{MayEnterFamily}
 use Rattle.cic_rules.specs.declared.families.CheckedInductive.{CheckedInductive}
@@ -20,11 +21,11 @@ use Rattle.cic_rules.specs.Scopes.{AreBefore, IsScoped, AreScoped, IsScopedConte
 use Rattle.cic_rules.specs.Judges.{IsInferredIn}
 use Rattle.cic_rules.specs.declared.decls.InductiveDecl.{InductiveDecl}
 use Rattle.cic_rules.specs.Contexts.{type_of_variable, value_of_variable, products_over}
-use Rattle.cic_rules.specs.Environments.{place_in, type_of_global, body_of_global, decl_at, decl_terms, AreScopedCtors, IsScopedDecl, IsEnvironment}
+use Rattle.cic_rules.specs.Environments.{place_in, type_of_global, body_of_global, decl_at, decl_terms, AreScopedCtors, IsScopedDecl, IsNew, IsEnvironment, MayEnter}
 use Rattle.cic_rules.specs.Derive.{WfContext, HasType}
 use Rattle.cic_rules.specs.Reduce.{whnf_at}
 use Rattle.cic_rules.specs.Convert.{conv_at}
-use Rattle.cic_rules.specs.Infer.{inferred_sort, infer_at, sort_of_at, check_at}
+use Rattle.cic_rules.specs.Infer.{union, inferred_sort, infer_at, sort_of_at, check_at}
 use Rattle.cic_rules.specs.Inductive.{row_at}
 use Rattle.cic_rules.specs.Declare.{IsChecked, eliminators, declare_at}
 use Rattle.cic_rules.specs.Runs.{Ran, Run, ◌>>=◌, pure, Turn, Final, GoOn}
@@ -144,6 +145,25 @@ ScopeOfInductives = (env : List Slot) → IsEnvironment env → (c : CheckedIndu
 abbrev pub CheckedMayEnter : Type 0
 CheckedMayEnter = (env : List Slot) → IsEnvironment env → (c : CheckedInductive) → IsChecked env c → (entries : List Entry) →
     eliminators env c ≡ Ok entries → MayEnterFamily env c.decl entries
+
+-- what was judged without hypotheses may be entered under a new name
+pub record JudgedMayEnter : Type 0 where
+  pub assumed : (env : List Slot) (name : List ℕ) (ty : Tree) (used : List ℕ) → IsNew env name → IsJudged 0 (length env) ty used →
+      MayEnter env (record { name = name; ty = ty; kind = Assumed; used = used })
+  pub admitted : (env : List Slot) (name : List ℕ) (ty : Tree) (used : List ℕ) → IsNew env name → IsJudged 0 (length env) ty used →
+      MayEnter env (record { name = name; ty = ty; kind = Admitted; used = used })
+  pub defined : (env : List Slot) (name : List ℕ) (ty body : Tree) (opaque : Bool) (used : List ℕ) → IsNew env name →
+      IsJudged 0 (length env) ty used → IsJudged 0 (length env) body used →
+      MayEnter env (record { name = name; ty = ty; kind = Defined body opaque; used = used })
+  -- with the names of a further run
+  pub first : (vars globals : ℕ) (t : Tree) (us vs : List ℕ) → IsJudged vars globals t us → AreNames globals vs →
+      IsJudged vars globals t (union us vs)
+  pub second : (vars globals : ℕ) (t : Tree) (us vs : List ℕ) → AreNames globals us → IsJudged vars globals t vs →
+      IsJudged vars globals t (union us vs)
+
+-- so declarations keep what is true of an environment
+abbrev pub DeclareKeepsEnvironments : Type 0
+DeclareKeepsEnvironments = (env : List Slot) → IsEnvironment env → (calls : ℕ) (d : Decl) → Tells (declare_at env calls d) IsEnvironment
 
 -- what an environment tells is in scope everywhere: types, bodies and declarations
 pub record ScopeOfGlobals : Type 0 where

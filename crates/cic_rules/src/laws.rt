@@ -1,7 +1,7 @@
 //! Laws of the definitions that the other clauses cite, for the proofs above this crate. Each
 //! function does nothing.
 
-ghost use Rattle.cic_rules.specs.Laws.{NamesMayGrow, AxiomsAscend, EntriesUseBefore, AxiomsAreReached, RowsAreSorted, FuelOfReduction, FuelOfConversion, FuelOfInference, FuelOfSorts, FuelOfChecks, FuelOfDeclarations, ScopeOfReduction, ScopeOfInference, ScopeOfSorts, ScopeOfChecks, ScopeOfRows, ScopeOfInductives, CheckedMayEnter, FoundPlacesAreThere, ScopeOfGlobals, ScopeOfContexts, ScopeOfTerms};
+ghost use Rattle.cic_rules.specs.Laws.{NamesMayGrow, AxiomsAscend, EntriesUseBefore, AxiomsAreReached, RowsAreSorted, FuelOfReduction, FuelOfConversion, FuelOfInference, FuelOfSorts, FuelOfChecks, FuelOfDeclarations, ScopeOfReduction, ScopeOfInference, ScopeOfSorts, ScopeOfChecks, ScopeOfRows, ScopeOfInductives, CheckedMayEnter, JudgedMayEnter, DeclareKeepsEnvironments, FoundPlacesAreThere, ScopeOfGlobals, ScopeOfContexts, ScopeOfTerms};
 
 /// What is derived over some names is derived over every list that has them.
 pub fn law_of_names()
@@ -37,6 +37,12 @@ pub fn law_of_fuel()
 /// What the test of an inductive type gives may be entered, with the entries that are made of it.
 pub fn law_of_families()
     ensures { CheckedMayEnter }
+{}
+
+/// What was judged may be entered, and declarations keep what is true of an environment.
+pub fn law_of_declarations()
+    ensures entries { JudgedMayEnter }
+    ensures environments { DeclareKeepsEnvironments }
 {}
 
 /// What stands in scope: reduction keeps it, inference tells it, and a name that is found is that

@@ -25,7 +25,8 @@ pub use fuel::Fuel;
 pub use judge::{Answer, Arrow, Declares, Inferred, InferredSort, Judge, Mode};
 pub use judgements::{check, compare_cost, converts, sort_of, type_of_sort};
 pub use laws::{
-    law_of_axioms, law_of_families, law_of_fuel, law_of_names, law_of_rows, law_of_scopes,
+    law_of_axioms, law_of_declarations, law_of_families, law_of_fuel, law_of_names, law_of_rows,
+    law_of_scopes,
 };
 pub use rows::row_of;
 pub use shapes::FamilyShape;
