@@ -1,0 +1,3 @@
+pub mod FocusState
+pub mod Levels
+pub mod Steps

@@ -1,0 +1,5 @@
+//! What no clause says of the prover's crates: worked examples, through their public calls.
+#![tactic(auto)]
+
+#[cfg(test)]
+mod focus;
