@@ -1,3 +1,4 @@
 pub mod FocusState
 pub mod Levels
 pub mod Steps
+pub mod Laws

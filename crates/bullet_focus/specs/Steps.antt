@@ -68,7 +68,8 @@ closed place f =
       refusals = unsolved admitted;
     }
 
-abbrev bullet_at : Opener → FocusState → Option ℕ → Focused
+-- by the place of its level, if it has one
+abbrev pub bullet_at : Opener → FocusState → Option ℕ → Focused
 bullet_at opener f None = level_begun code.WRONG_BULLET opener f
 bullet_at opener f (Some place) = resumed opener place f
 
@@ -80,7 +81,8 @@ after_bullet mark count f = bullet_at (Bullet mark count) f (place_of (Bullet ma
 abbrev pub after_brace_open : FocusState → Focused
 after_brace_open f = level_begun code.NO_GOAL Brace f
 
-abbrev brace_at : FocusState → Option ℕ → Focused
+-- by the place of the last brace, if there is one
+abbrev pub brace_at : FocusState → Option ℕ → Focused
 brace_at f None = kept code.NO_BRACE f
 brace_at f (Some place) = closed place f
 

@@ -5,9 +5,11 @@
 #![tactic(auto)]
 
 mod focus;
+mod laws;
 mod levels;
 mod stack;
 
 pub use focus::{Focus, Focused};
+pub use laws::law_of_goals;
 pub use levels::{Level, Opener};
 pub use stack::{GoalStack, Stack};

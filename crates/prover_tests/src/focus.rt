@@ -1,6 +1,6 @@
 //! Bullets and braces: the goals in focus, those that wait, those given up, and the refusals.
 use base_core::{NoMem, NumberList};
-use bullet_focus::{Focus, GoalStack};
+use bullet_focus::{Focus, Focused, GoalStack};
 use std::alloc::Global;
 use std::process::Abort;
 
@@ -230,15 +230,22 @@ const CASES: [Case; 14] = [
 /// How many goals the long proof has.
 const MANY: u32 = 3_000;
 
-/// What the steps of a case have told so far.
+/// What steps have told so far.
 #[derive(Drop)]
 struct Told {
     admitted: NumberList,
     refusals: NumberList,
 }
 
-fn put_all(all: &mut NumberList, more: &NumberList) -> Result<(), NoMem> {
-    for number in more.as_slice() {
+fn nothing_told(alloc: Global) -> Told {
+    Told {
+        admitted: NumberList::new(alloc),
+        refusals: NumberList::new(alloc),
+    }
+}
+
+fn put_all(all: &mut NumberList, more: &[u32]) -> Result<(), NoMem> {
+    for number in more {
         all.push(*number)?;
     }
     Ok(())
@@ -252,29 +259,39 @@ fn solve(alloc: Global, focus: &Focus, goals: &[u32]) -> Result<Focus, NoMem> {
     focus.replace_first(alloc, &goals)
 }
 
-fn take_step(alloc: Global, focus: &Focus, step: &Step, told: &mut Told) -> Result<Focus, NoMem> {
-    let after = match step {
-        Step::Solve(goals) => return solve(alloc, focus, goals),
-        Step::Bullet(mark, count) => focus.bullet(alloc, *mark, *count)?,
-        Step::Open => focus.brace_open(alloc)?,
-        Step::Close => focus.brace_close(alloc)?,
-    };
-    put_all(&mut told.admitted, &after.admitted)?;
-    put_all(&mut told.refusals, &after.refusals)?;
+fn note(after: Focused, told: &mut Told) -> Result<Focus, NoMem> {
+    put_all(&mut told.admitted, after.admitted.as_slice())?;
+    put_all(&mut told.refusals, after.refusals.as_slice())?;
     Ok(after.focus)
+}
+
+fn take_step(alloc: Global, focus: &Focus, step: &Step, told: &mut Told) -> Result<Focus, NoMem> {
+    match step {
+        Step::Solve(goals) => solve(alloc, focus, goals),
+        Step::Bullet(mark, count) => note(focus.bullet(alloc, *mark, *count)?, told),
+        Step::Open => note(focus.brace_open(alloc)?, told),
+        Step::Close => note(focus.brace_close(alloc)?, told),
+    }
+}
+
+/// The state after some steps from another one.
+fn play(alloc: Global, from: &Focus, steps: &[Step], told: &mut Told) -> Result<Focus, NoMem> {
+    let mut focus = from.share()?;
+    for step in steps {
+        focus = take_step(alloc, &focus, step, told)?;
+    }
+    Ok(focus)
+}
+
+fn play_all(alloc: Global, steps: &[Step], told: &mut Told) -> Result<Focus, NoMem> {
+    let first = Focus::begin(alloc, 0)?;
+    play(alloc, &first, steps, told)
 }
 
 fn try_goals(rt: &impl Abort, goals: &GoalStack, wanted: &[u32]) {
     assert_eq!(rt; goals.len(), wanted.len());
     for (at, goal) in wanted.iter().enumerate() {
         assert_eq!(rt; goals.get(at).copied(), Some(*goal));
-    }
-}
-
-fn try_same(rt: &impl Abort, first: &GoalStack, second: &GoalStack) {
-    assert_eq!(rt; first.len(), second.len());
-    for at in 0..first.len() {
-        assert_eq!(rt; first.get(at).copied(), second.get(at).copied());
     }
 }
 
@@ -287,69 +304,85 @@ fn try_waiting(rt: &impl Abort, focus: &Focus, wanted: &[&[u32]]) {
     }
 }
 
-fn try_case(rt: &impl Abort, alloc: Global, case: &Case) -> Result<(), NoMem> {
-    let mut told = Told {
-        admitted: NumberList::new(alloc),
-        refusals: NumberList::new(alloc),
-    };
-    let mut states: Vec<Focus> = Vec::new(alloc);
-    let mut focus = Focus::begin(alloc, 0)?;
-    for step in case.steps {
-        states.push(focus.share()?)?;
-        focus = take_step(alloc, &focus, step, &mut told)?;
-    }
-    try_goals(rt, focus.focused(), case.focused);
-    try_waiting(rt, &focus, case.waiting);
+fn try_told(rt: &impl Abort, told: &Told, case: &Case) {
     assert_eq!(rt; told.admitted.as_slice(), case.admitted);
     assert_eq!(rt; told.refusals.as_slice(), case.refusals);
-    try_old(rt, alloc, case, states.as_slice(), &mut told)
 }
 
-/// The states before each step, read after the last one, are those of a proof that was run up to there alone.
-fn try_old(
-    rt: &impl Abort,
-    alloc: Global,
-    case: &Case,
-    states: &[Focus],
-    told: &mut Told,
-) -> Result<(), NoMem> {
-    let mut fresh = Focus::begin(alloc, 0)?;
-    for (old, step) in states.iter().zip(case.steps) {
-        try_same(rt, old.focused(), fresh.focused());
-        assert_eq!(rt; old.levels(), fresh.levels());
-        fresh = take_step(alloc, &fresh, step, told)?;
-    }
+fn try_end(rt: &impl Abort, alloc: Global, case: &Case) -> Result<(), NoMem> {
+    let mut told = nothing_told(alloc);
+    let focus = play_all(alloc, case.steps, &mut told)?;
+    try_goals(rt, focus.focused(), case.focused);
+    try_waiting(rt, &focus, case.waiting);
+    try_told(rt, &told, case);
     Ok(())
 }
 
-/// Many goals in focus, each solved by one step, and then all given up by one brace.
-fn try_many(rt: &impl Abort, alloc: Global) -> Result<(), NoMem> {
+/// The state in the middle, read after the last step, is still the first case's that ends there.
+fn try_old(rt: &impl Abort, alloc: Global, case: &Case) -> Result<(), NoMem> {
+    let mut told = nothing_told(alloc);
+    let (early, late) = case.steps.split_at(case.steps.len() / 2);
+    let old = play_all(alloc, early, &mut told)?;
+    let _end = play(alloc, &old, late, &mut told)?;
+    let fresh = play_all(alloc, early, &mut told)?;
+    try_same(rt, &old, &fresh);
+    Ok(())
+}
+
+fn try_same(rt: &impl Abort, first: &Focus, second: &Focus) {
+    try_same_goals(rt, first.focused(), second.focused());
+    assert_eq!(rt; first.levels(), second.levels());
+    for level in 0..first.levels() {
+        if level < second.levels() {
+            try_same_goals(rt, first.waiting(level), second.waiting(level));
+        }
+    }
+}
+
+fn try_same_goals(rt: &impl Abort, first: &GoalStack, second: &GoalStack) {
+    assert_eq!(rt; first.len(), second.len());
+    for at in 0..first.len() {
+        assert_eq!(rt; first.get(at).copied(), second.get(at).copied());
+    }
+}
+
+fn many_goals(alloc: Global) -> Result<NumberList, NoMem> {
     let mut goals = NumberList::new(alloc);
     for goal in 0..MANY {
         goals.push(goal)?;
     }
-    let one = NumberList::copy(alloc, &[7])?;
-    let none = NumberList::new(alloc);
-    let mut focus = Focus::begin(alloc, 0)?.brace_open(alloc)?.focus;
-    focus = solve(alloc, &focus, goals.as_slice())?;
-    let all = focus.share()?;
+    Ok(goals)
+}
+
+/// Each of many goals is solved in two steps.
+fn solve_many(alloc: Global, focus: &Focus) -> Result<Focus, NoMem> {
+    let mut focus = focus.share()?;
     for _ in 0..MANY {
-        focus = solve(alloc, &focus, one.as_slice())?;
-        focus = solve(alloc, &focus, none.as_slice())?;
+        focus = solve(alloc, &focus, &[7])?;
+        focus = solve(alloc, &focus, &[])?;
     }
-    assert_eq!(rt; focus.focused().len(), 0);
-    try_goals(rt, all.focused(), goals.as_slice());
-    let closed = all.brace_close(alloc)?;
-    assert_eq!(rt; closed.admitted.as_slice(), goals.as_slice());
-    assert_eq!(rt; closed.refusals.as_slice(), [51].as_slice());
-    assert_eq!(rt; closed.focus.levels(), 0);
+    Ok(focus)
+}
+
+/// Many goals in a brace: solved one after another, and given up all at once.
+fn try_many(rt: &impl Abort, alloc: Global) -> Result<(), NoMem> {
+    let goals = many_goals(alloc)?;
+    let mut told = nothing_told(alloc);
+    let begun = play_all(alloc, &[Step::Open], &mut told)?;
+    let many = solve(alloc, &begun, goals.as_slice())?;
+    let solved = solve_many(alloc, &many)?;
+    assert_eq!(rt; solved.focused().len(), 0);
+    try_goals(rt, many.focused(), goals.as_slice());
+    let _end = play(alloc, &many, &[Step::Close], &mut told)?;
+    assert_eq!(rt; told.admitted.as_slice(), goals.as_slice());
     Ok(())
 }
 
 #[test]
 fn bullets_and_braces(rt: HostRuntime) -> Result<(), NoMem> {
     for case in &CASES {
-        try_case(&rt, rt.alloc(), case)?;
+        try_end(&rt, rt.alloc(), case)?;
+        try_old(&rt, rt.alloc(), case)?;
     }
     try_many(&rt, rt.alloc())
 }
