@@ -346,6 +346,11 @@ fn try_same_goals(rt: &impl Abort, first: &GoalStack, second: &GoalStack) {
     }
 }
 
+fn try_case(rt: &impl Abort, alloc: Global, case: &Case) -> Result<(), NoMem> {
+    try_end(rt, alloc, case)?;
+    try_old(rt, alloc, case)
+}
+
 fn many_goals(alloc: Global) -> Result<NumberList, NoMem> {
     let mut goals = NumberList::new(alloc);
     for goal in 0..MANY {
@@ -364,25 +369,43 @@ fn solve_many(alloc: Global, focus: &Focus) -> Result<Focus, NoMem> {
     Ok(focus)
 }
 
-/// Many goals in a brace: solved one after another, and given up all at once.
-fn try_many(rt: &impl Abort, alloc: Global) -> Result<(), NoMem> {
-    let goals = many_goals(alloc)?;
-    let mut told = nothing_told(alloc);
-    let begun = play_all(alloc, &[Step::Open], &mut told)?;
-    let many = solve(alloc, &begun, goals.as_slice())?;
-    let solved = solve_many(alloc, &many)?;
+fn many_in_brace(alloc: Global, goals: &[u32], told: &mut Told) -> Result<Focus, NoMem> {
+    let first = Focus::begin(alloc, 0)?;
+    let focus = note(first.brace_open(alloc)?, told)?;
+    solve(alloc, &focus, goals)
+}
+
+fn try_solved(rt: &impl Abort, alloc: Global, many: &Focus) -> Result<(), NoMem> {
+    let solved = solve_many(alloc, many)?;
     assert_eq!(rt; solved.focused().len(), 0);
-    try_goals(rt, many.focused(), goals.as_slice());
-    let _end = play(alloc, &many, &[Step::Close], &mut told)?;
-    assert_eq!(rt; told.admitted.as_slice(), goals.as_slice());
     Ok(())
+}
+
+fn given_up(alloc: Global, many: &Focus) -> Result<NumberList, NoMem> {
+    let closed = many.brace_close(alloc)?;
+    Ok(closed.admitted)
+}
+
+/// Many goals in a brace: solved one after another, and, in the state before that, given up all at once.
+fn try_many(rt: &impl Abort, alloc: Global, goals: &[u32], told: &mut Told) -> Result<(), NoMem> {
+    let many = many_in_brace(alloc, goals, told)?;
+    try_solved(rt, alloc, &many)?;
+    let all = given_up(alloc, &many)?;
+    assert_eq!(rt; all.as_slice(), goals);
+    Ok(())
+}
+
+#[test]
+fn many_goals_in_a_brace(rt: HostRuntime) -> Result<(), NoMem> {
+    let goals = many_goals(rt.alloc())?;
+    let mut told = nothing_told(rt.alloc());
+    try_many(&rt, rt.alloc(), goals.as_slice(), &mut told)
 }
 
 #[test]
 fn bullets_and_braces(rt: HostRuntime) -> Result<(), NoMem> {
     for case in &CASES {
-        try_end(&rt, rt.alloc(), case)?;
-        try_old(&rt, rt.alloc(), case)?;
+        try_case(&rt, rt.alloc(), case)?;
     }
-    try_many(&rt, rt.alloc())
+    Ok(())
 }
