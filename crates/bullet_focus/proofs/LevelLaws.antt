@@ -1,5 +1,5 @@
 -- Walks along levels.
-use Rattle.std.proofs.Common.{◌≡◌, ℕ, ◌+◌, ◌<◌, List, [], ◌∷◌, ◌++◌, drop, take, Option, Some, None, true, false, refl, sym, ◌∙◌, ap, arith, append_assoc}
+use Rattle.std.proofs.Common.{◌≡◌, ℕ, ◌+◌, ◌<◌, List, [], ◌∷◌, ◌++◌, drop, take, Option, Some, None, true, false, refl, sym, ◌∙◌, ap, append_assoc}
 use Rattle.std.specs.List.{slice_get, position_from}
 use Rattle.bullet_focus.specs.declared.levels.Level.{Level}
 use Rattle.bullet_focus.specs.declared.levels.Opener.{Opener}
