@@ -318,7 +318,7 @@ fn try_end(rt: &impl Abort, alloc: Global, case: &Case) -> Result<(), NoMem> {
     Ok(())
 }
 
-/// The state in the middle, read after the last step, is still the first case's that ends there.
+/// The state in the middle, read after the last step, is that of a proof that ends there.
 fn try_old(rt: &impl Abort, alloc: Global, case: &Case) -> Result<(), NoMem> {
     let mut told = nothing_told(alloc);
     let (early, late) = case.steps.split_at(case.steps.len() / 2);
