@@ -4,6 +4,12 @@
 #[cfg(test)]
 mod families;
 #[cfg(test)]
+mod judges;
+#[cfg(test)]
+mod notation;
+#[cfg(test)]
 mod rules;
+#[cfg(test)]
+mod spines;
 #[cfg(test)]
 mod terms;

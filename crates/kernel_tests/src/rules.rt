@@ -1,29 +1,19 @@
-use cic_rules::{Context, Entry, EntryKind, Fuel, GlobalEnv, Hyp};
+//! Fuel, contexts and environments.
 use base_core::{NumberList, Text};
+use cic_rules::{Context, Entry, EntryKind, Fuel, GlobalEnv, Hyp};
 use core_term::{Sort, Term};
 use std::alloc::Global;
-use std::process::Abort;
 use std::test::Fail;
 
-fn fuel<A: Abort>(rt: &A) {
+#[test]
+fn fuel(rt: HostRuntime) {
     let mut fuel = Fuel::new(3);
     assert!(rt; fuel.spend(2));
-    assert_eq!(rt; fuel.spent(), 2);
     assert!(rt; !fuel.spend(2));
     assert_eq!(rt; fuel.spent(), 3);
     let entered = fuel.enter();
     assert!(rt; entered);
     fuel.leave();
-}
-
-fn names<A: Abort>(rt: &A, alloc: Global) -> Result<(), Fail> {
-    let env = GlobalEnv::empty();
-    let name = Text::copy(alloc, "A")?;
-    assert_eq!(rt; env.share()?.place_of(&name), None);
-    assert_eq!(rt; env.len(), 0);
-    assert!(rt; env.get(0).is_none());
-    assert!(rt; env.inductive(0).is_none());
-    Ok(())
 }
 
 fn assume(alloc: Global, env: &GlobalEnv, name: &str) -> Result<GlobalEnv, Fail> {
@@ -44,44 +34,53 @@ fn assume(alloc: Global, env: &GlobalEnv, name: &str) -> Result<GlobalEnv, Fail>
     }
 }
 
-fn environments<A: Abort>(rt: &A, alloc: Global) -> Result<(), Fail> {
+#[test]
+fn environments(rt: HostRuntime) -> Result<(), Fail> {
+    let alloc = rt.alloc();
     let one = assume(alloc, &GlobalEnv::empty(), "B")?;
     let two = assume(alloc, &one, "A")?;
-    assert_eq!(rt; one.len(), 1);
-    assert_eq!(rt; two.len(), 2);
-    let a = Text::copy(alloc, "A")?;
-    assert_eq!(rt; two.place_of(&a), Some(1));
-    assert_eq!(rt; one.place_of(&a), None);
+    let name = Text::copy(alloc, "A")?;
+    assert_eq!(rt; one.place_of(&name), None);
+    assert_eq!(rt; two.place_of(&name), Some(1));
+    assert!(rt; two.inductive(1).is_none());
     Ok(())
 }
 
-fn contexts<A: Abort>(rt: &A, alloc: Global) -> Result<(), Fail> {
+// x : Prop
+fn context(alloc: Global) -> Result<Context, Fail> {
     let hyp = Hyp {
         name: Text::copy(alloc, "x")?,
         ty: Term::sort(alloc, Sort::PropSort)?,
         value: None,
     };
-    let Ok(one) = Context::empty().with(alloc, hyp) else {
-        return Err(Fail::from("no context"));
-    };
-    if one.len() == 0 {
+    match Context::empty().with(alloc, hyp) {
+        Ok(ctx) => Ok(ctx),
+        Err(_) => Err(Fail::from("no context")),
+    }
+}
+
+#[test]
+fn contexts(rt: HostRuntime) -> Result<(), Fail> {
+    let alloc = rt.alloc();
+    let old = context(alloc)?;
+    if old.len() == 0 {
         return Err(Fail::from("an empty context"));
     }
-    let renamed = one.rename(alloc, 0, Text::copy(alloc, "y")?)?;
-    let (Some(old), Some(new)) = (one.get(0), renamed.get(0)) else {
-        return Err(Fail::from("no hypothesis"));
-    };
-    assert_eq!(rt; old.name.as_str(), "x");
-    assert_eq!(rt; new.name.as_str(), "y");
-    assert_eq!(rt; renamed.share()?.len(), 1);
+    let new = old.rename(alloc, 0, Text::copy(alloc, "y")?)?;
+    for (ctx, wanted) in [(old, "x"), (new, "y")] {
+        let name = ctx.get(0).ok_or("no hypothesis")?.name.as_str();
+        assert_eq!(rt; name, wanted);
+    }
     Ok(())
 }
 
 #[test]
-fn rules(rt: HostRuntime) -> Result<(), Fail> {
+fn variables(rt: HostRuntime) -> Result<(), Fail> {
     let alloc = rt.alloc();
-    fuel(&rt);
-    names(&rt, alloc)?;
-    environments(&rt, alloc)?;
-    contexts(&rt, alloc)
+    let ctx = context(alloc)?;
+    let ty = ctx.type_of(alloc, 0)?.ok_or("no type")?;
+    assert!(rt; ty.equal(&Term::sort(alloc, Sort::PropSort)?));
+    assert!(rt; ctx.type_of(alloc, 1)?.is_none());
+    assert!(rt; ctx.value_of(alloc, 0)?.is_none());
+    Ok(())
 }
