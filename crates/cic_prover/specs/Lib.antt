@@ -1,5 +1,4 @@
 pub mod Axioms
-pub mod Messages
 pub mod States
 pub mod Verdicts
 pub mod Exec

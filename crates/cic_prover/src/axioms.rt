@@ -1,3 +1,4 @@
+//! The sentences that are built: an axiom of a sort. It goes when the parser is joined.
 ghost use Rattle.std.specs.Prelude.{◌≡◌, ◌≤◌, codes, drop, length, false, true, None, Some, MatchOption};
 ghost use Rattle.std.specs.List.{prefix_len};
 ghost use Rattle.std.specs.Str.{IsAscii, bytes_eq};
@@ -63,7 +64,8 @@ fn past_word(bytes: &[u8]) -> &[u8]
 
 /// What stands behind the first byte, if that is a colon.
 fn past_colon(bytes: &[u8]) -> Option<&[u8]>
-    ensures { MatchOption result (begins 58 bytes.now ≡ false) (λ rest. (begins 58 bytes.now ≡ true) × (rest.now ≡ drop 1 bytes.now)) }
+    ensures { MatchOption result (begins 58 bytes.now ≡ false)
+        (λ rest. (begins 58 bytes.now ≡ true) × (rest.now ≡ drop 1 bytes.now)) }
 {
     match bytes {
         [b':', rest @ ..] => Some(rest),
@@ -114,7 +116,8 @@ fn is_sort(word: &str) -> bool
 
 /// The name and the sort of the axiom that a sentence declares, if it declares one.
 pub fn axiom_of(sentence: &[u8]) -> Option<(&str, &str)>
-    ensures { MatchOption result (axiom_of sentence.now ≡ None) (λ parts. axiom_of sentence.now ≡ Some (parts.0.now, parts.1.now)) }
+    ensures { MatchOption result (axiom_of sentence.now ≡ None)
+        (λ parts. axiom_of sentence.now ≡ Some (parts.0.now, parts.1.now)) }
 {
     let name = skip(past_word(sentence));
     let colon = skip(past_word(name));

@@ -2,7 +2,6 @@
 #![tactic(auto)]
 
 mod axioms;
-mod messages;
 mod prover;
 mod states;
 mod verdicts;

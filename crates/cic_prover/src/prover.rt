@@ -1,9 +1,9 @@
-ghost use Rattle.std.specs.Prelude.{ℕ, None};
-ghost use Rattle.cic_prover.specs.States.{Declared, nothing};
-ghost use Rattle.cic_prover.specs.Exec.{after, diagnosed, cost, opened, outline_of};
+//! The prover, as every prover is called.
+ghost use Rattle.cic_prover.specs.States.{Declared};
+ghost use Rattle.cic_prover.specs.Exec.{means};
 
 use crate::AxiomState;
-use crate::verdicts::{cost_of, next, told, verdict_of};
+use crate::verdicts::{cost_of, diagnostics_of, next, verdict_of};
 use base_core::{Kind, NoMem, Steps};
 use prover_iface::{GoalsView, Outcome, OutlineList, Prover};
 use std::alloc::Global;
@@ -28,21 +28,7 @@ impl Prover for CicProver {
 
     ghost meaning = { λ s. s };
 
-    ghost first = { nothing };
-
-    ghost first_cost = { 0 };
-
-    ghost after = { after };
-
-    ghost diagnosed = { diagnosed };
-
-    ghost cost = { cost };
-
-    ghost opened = { opened };
-
-    ghost goals_of = { λ _. None };
-
-    ghost outline_of = { outline_of };
+    ghost means = { means };
 
     ghost bounded = { cost-le };
 
@@ -80,7 +66,7 @@ impl Prover for CicProver {
             return Ok(Outcome::Interrupted);
         }
         steps.rise(u64::from(cost));
-        let diags = told(alloc, &verdict, text)?;
+        let diags = diagnostics_of(alloc, &verdict, text)?;
         let state = next(alloc, state, verdict)?;
         Ok(Outcome::Done { state, diags, cost })
     }

@@ -1,8 +1,9 @@
+//! What the sentences so far declare.
 ghost use Rattle.std.specs.Prelude.{◌≡◌, ◌≤◌, string_bytes, IfOk};
 ghost use Rattle.cic_prover.specs.States.{nothing, passed, entered, is_taken};
 
-use base_core::{NoMem, Text};
-use prover_iface::{ItemKind, OutlineItem, OutlineList, TextList};
+use base_core::{Duplicate, NoMem, Text, TextList};
+use prover_iface::{ItemKind, OutlineItem, OutlineList};
 use shared_map::{SharedList, SharedMap};
 use std::alloc::Global;
 use std::marker::Model;
@@ -93,20 +94,6 @@ impl AxiomState {
     }
 }
 
-/// A declaration once more.
-fn copied(alloc: Global, item: &OutlineItem) -> Result<OutlineItem, NoMem>
-    ensures { IfOk result (λ i. i ≡ item.now) }
-{
-    Ok(OutlineItem {
-        kind: item.kind,
-        name: Text::copy(alloc, item.name.as_str())?,
-        statement: Text::copy(alloc, item.statement.as_str())?,
-        axioms: item.axioms.copied(alloc)?,
-        first: item.first,
-        last: item.last,
-    })
-}
-
 /// Declarations once more.
 fn copied_all(alloc: Global, items: &SharedList<OutlineItem>) -> Result<OutlineList, NoMem>
     ensures { IfOk result (λ outline. outline ≡ items.now) }
@@ -116,7 +103,7 @@ fn copied_all(alloc: Global, items: &SharedList<OutlineItem>) -> Result<OutlineL
         let Some(item) = items.get(at) else {
             unreachable!()
         };
-        outline.push(copied(alloc, item)?)?;
+        outline.push(item.duplicate(alloc)?)?;
     }
     Ok(outline)
 }

@@ -1,11 +1,12 @@
+//! What becomes of a sentence.
 ghost use Rattle.std.specs.Prelude.{◌≡◌, ◌^◌, ◌<◌, ◌≤◌, length, IfOk};
 ghost use Rattle.cic_prover.specs.Axioms.{axiom_of};
 ghost use Rattle.cic_prover.specs.Verdicts.{plain_verdict, verdict};
-ghost use Rattle.cic_prover.specs.Exec.{next, told, verdict_cost};
+ghost use Rattle.cic_prover.specs.Exec.{next, diagnostics_of, verdict_cost};
 
 use crate::AxiomState;
 use crate::axioms::axiom_of;
-use crate::messages::{NAME_TAKEN, NO_PROOF, NOT_BUILT, UNFINISHED, message};
+use base_core::refusal_codes::{NAME_TAKEN, NO_PROOF, NOT_BUILT, UNFINISHED, refusal_text};
 use base_core::{Kind, NoMem, Text};
 use prover_iface::{DiagList, RelDiag};
 use std::alloc::Global;
@@ -63,9 +64,9 @@ pub fn cost_of(verdict: &Verdict) -> u32
 }
 
 /// What is told of a sentence: a refusal is an error at the whole of it.
-pub fn told(alloc: Global, verdict: &Verdict, text: &str) -> Result<DiagList, NoMem>
+pub fn diagnostics_of(alloc: Global, verdict: &Verdict, text: &str) -> Result<DiagList, NoMem>
     requires { length text.now < 2 ^ 32 }
-    ensures { IfOk result (λ diags. diags ≡ told text.now verdict.now) }
+    ensures { IfOk result (λ diags. diags ≡ diagnostics_of text.now verdict.now) }
 {
     let mut diags = DiagList::new(alloc);
     if let Verdict::Refused(code) = verdict {
@@ -74,7 +75,7 @@ pub fn told(alloc: Global, verdict: &Verdict, text: &str) -> Result<DiagList, No
             code: *code,
             from: 0,
             to: text.len() as u32,
-            text: Text::copy(alloc, message(*code))?,
+            text: Text::copy(alloc, refusal_text(*code))?,
         })?;
     }
     Ok(diags)

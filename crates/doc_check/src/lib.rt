@@ -2,7 +2,10 @@
 #![tactic(auto)]
 
 mod checking;
-mod kept;
+mod diagnostics;
+mod incremental;
+mod sentences;
 
 pub use checking::check_text;
-pub use kept::{Advance, DocCheck};
+pub use diagnostics::{AbsDiag, AbsDiagList, Report};
+pub use incremental::{Advance, DocCheck};

@@ -3,8 +3,8 @@ use Rattle.std.proofs.Common.{◌≡◌, ◌≢◌, ℕ, inl, inr, Bool, Option,
 use Rattle.base_core.specs.declared.mem_files.FileItem.{FileItem}
 use Rattle.base_core.specs.Files.{file_at}
 use Rattle.fleche_main.specs.declared.endings.Ending.{Ending}
-use Rattle.fleche_main.specs.declared.endings.Halt.{Halt}
-use Rattle.fleche_main.specs.declared.endings.Halt.TheVariants.{NoMem, SinkFailed}
+use Rattle.base_core.specs.declared.writing.Halt.{Halt}
+use Rattle.base_core.specs.declared.writing.Halt.TheVariants.{NoMem, SinkFailed}
 use Rattle.fleche_main.specs.Words.{Form, NoForm, Document, Session, form_by}
 use Rattle.fleche_main.specs.Outcome.{Outcome, file_outcome}
 use Rattle.fleche_main.specs.Run.{EndsAs, Ends, document_report}

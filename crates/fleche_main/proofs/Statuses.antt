@@ -2,8 +2,8 @@
 use Rattle.std.proofs.Common.{Result, Ok, Err, refl, lit<}
 use Rattle.fleche_main.specs.declared.endings.Ending.{Ending}
 use Rattle.fleche_main.specs.declared.endings.Ending.TheVariants.{Clean, Unclean, NotRead, NotText}
-use Rattle.fleche_main.specs.declared.endings.Halt.{Halt}
-use Rattle.fleche_main.specs.declared.endings.Halt.TheVariants.{NoMem, SinkFailed}
+use Rattle.base_core.specs.declared.writing.Halt.{Halt}
+use Rattle.base_core.specs.declared.writing.Halt.TheVariants.{NoMem, SinkFailed}
 use Rattle.fleche_main.specs.Status.{result_status, IsStatus}
 
 pub result_status-known : (result : Result Ending Halt) → IsStatus (result_status result)

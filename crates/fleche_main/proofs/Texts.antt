@@ -5,12 +5,13 @@ use Rattle.std.proofs.lemmas.Bool.Decides.{nat_tests}
 use Rattle.std.specs.Str.{IsUtf8, is_utf8}
 use Rattle.std.proofs.lemmas.Str.{is_utf8-from_IsUtf8, IsUtf8-from_is_utf8}
 use Rattle.base_core.specs.declared.mem_files.FileItem.{FileItem}
+use Rattle.base_core.specs.declared.limits.TheConstants.{TEXT_LIMIT}
 use Rattle.base_core.specs.Files.{file_at, IsReadOf}
 use Rattle.base_core.proofs.Begun.{appended-nil, begins_none}
-use Rattle.prover_iface.specs.declared.reports.Report.{Report}
+use Rattle.doc_check.specs.declared.diagnostics.Report.{Report}
 use Rattle.fleche_main.specs.declared.endings.Ending.{Ending}
 use Rattle.fleche_main.specs.declared.endings.Ending.TheVariants.{NotText}
-use Rattle.fleche_main.specs.declared.endings.Halt.{Halt}
+use Rattle.base_core.specs.declared.writing.Halt.{Halt}
 use Rattle.fleche_main.specs.Outcome.{Outcome, text_outcome, bytes_outcome, file_outcome, no_report}
 use Rattle.fleche_main.specs.Run.{EndsAs}
 
@@ -38,7 +39,7 @@ pub halted : (outcome : Outcome) (result : Result Ending Halt) (told : Option (L
 halted outcome (Ok ending) told e = cc
 halted outcome (Err halt) told e = begins_none told outcome.bytes
 
-short : (bytes : List ℕ) → length bytes ≤ 1048576 → nat_lt 1048576 (length bytes) ≡ false
+short : (bytes : List ℕ) → length bytes ≤ TEXT_LIMIT → nat_lt TEXT_LIMIT (length bytes) ≡ false
 short bytes h = grind (arith, nat_tests)
 
 -- a file was read

@@ -2,5 +2,4 @@ pub mod Words
 pub mod Reports
 pub mod Outcome
 pub mod Status
-pub mod Writes
 pub mod Run

@@ -1,7 +1,8 @@
 -- How the check of a file ends where memory serves and each put is taken, and what it then writes.
 use Rattle.std.specs.Prelude.{ℕ, ◌==◌, ◌&&◌, nat_lt, Option, None, Some, List, [], length, if◌then◌else◌}
 use Rattle.std.specs.Str.{is_utf8}
-use Rattle.prover_iface.specs.declared.reports.Report.{Report}
+use Rattle.base_core.specs.declared.limits.TheConstants.{TEXT_LIMIT}
+use Rattle.doc_check.specs.declared.diagnostics.Report.{Report}
 use Rattle.fleche_main.specs.declared.endings.Ending.{Ending}
 use Rattle.fleche_main.specs.declared.endings.Ending.TheVariants.{Clean, Unclean, NotRead, NotText}
 use Rattle.fleche_main.specs.Reports.{file_report, error_count, admission_count}
@@ -33,4 +34,4 @@ bytes_outcome check name bytes = if is_utf8 bytes then text_outcome check name b
 -- a file by its content: not read where there is none, no text where it is too long
 abbrev pub file_outcome : (List ℕ → Report) → List ℕ → Option (List ℕ) → Outcome
 file_outcome check name None = no_report NotRead
-file_outcome check name (Some bytes) = if nat_lt 1048576 (length bytes) then no_report NotText else bytes_outcome check name bytes
+file_outcome check name (Some bytes) = if nat_lt TEXT_LIMIT (length bytes) then no_report NotText else bytes_outcome check name bytes

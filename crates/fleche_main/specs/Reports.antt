@@ -3,11 +3,11 @@ use Rattle.std.specs.Prelude.{ℕ, ◌==◌, ◌+◌, Bool, true, false, List, [
 use Rattle.std.specs.Fmt.{decimal}
 use Rattle.base_core.specs.declared.places.Position.{Position}
 use Rattle.utf16_doc.specs.Position.{position_at}
-use Rattle.prover_iface.specs.declared.diagnostics.RelDiag.{RelDiag}
 use Rattle.prover_iface.specs.declared.outline.ItemKind.{ItemKind}
 use Rattle.prover_iface.specs.declared.outline.ItemKind.TheVariants.{Axiom, Definition, Inductive, Theorem, Admitted}
 use Rattle.prover_iface.specs.declared.outline.OutlineItem.{OutlineItem}
-use Rattle.prover_iface.specs.declared.reports.Report.{Report}
+use Rattle.doc_check.specs.declared.diagnostics.AbsDiag.{AbsDiag}
+use Rattle.doc_check.specs.declared.diagnostics.Report.{Report}
 
 -- pieces one after another
 abbrev pub joined : List (List ℕ) → List ℕ
@@ -19,15 +19,15 @@ abbrev pub severity_word : ℕ → List ℕ
 severity_word severity = if severity == 1 then codes "error" else if severity == 2 then codes "warning" else codes "info"
 
 -- `FILE:L:C: SEV CODE: TEXT`, with line and character from 1
-abbrev pub placed_line : List ℕ → Position → RelDiag → List ℕ
+abbrev pub placed_line : List ℕ → Position → AbsDiag → List ℕ
 placed_line name at diag =
     joined (name ∷ codes ":" ∷ decimal (at.line + 1) ∷ codes ":" ∷ decimal (at.character + 1) ∷ codes ": " ∷ severity_word diag.severity ∷ codes " " ∷ decimal diag.code ∷ codes ": " ∷ diag.text ∷ codes "\n" ∷ [])
 
 -- a diagnostic, where it begins
-abbrev pub diag_line : List ℕ → List ℕ → RelDiag → List ℕ
+abbrev pub diag_line : List ℕ → List ℕ → AbsDiag → List ℕ
 diag_line name text diag = placed_line name (position_at text diag.from) diag
 
-abbrev pub diag_lines : List ℕ → List ℕ → List RelDiag → List ℕ
+abbrev pub diag_lines : List ℕ → List ℕ → List AbsDiag → List ℕ
 diag_lines name text [] = []
 diag_lines name text (diag ∷ diags) = diag_line name text diag ++ diag_lines name text diags
 
@@ -69,7 +69,7 @@ item_lines name [] = []
 item_lines name (item ∷ items) = item_line name item ++ item_lines name items
 
 -- the number of errors
-abbrev pub error_count : List RelDiag → ℕ
+abbrev pub error_count : List AbsDiag → ℕ
 error_count diags = count_by (λ diag. diag.severity == 1) diags
 
 abbrev pub is_admitted : ItemKind → Bool

@@ -1,17 +1,18 @@
+//! Files are checked.
 ghost use Rattle.std.specs.Prelude.{◌≡◌, ◌≢◌, ◌≤◌, Ok, length, IfSome, IfOk};
 ghost use Rattle.std.specs.Result.{IsErrOf};
+ghost use Rattle.base_core.specs.declared.limits.TheConstants.{TEXT_LIMIT};
 ghost use Rattle.base_core.specs.Faults.{Rose};
 ghost use Rattle.base_core.specs.Files.{file_at};
-ghost use Rattle.prover_iface.specs.Check.{checked};
+ghost use Rattle.doc_check.specs.Check.{checked};
 ghost use Rattle.fleche_main.specs.Outcome.{ending_of, text_outcome, bytes_outcome, file_outcome};
 ghost use Rattle.fleche_main.specs.Run.{EndsAs};
 
-use crate::endings::{Ending, Halt};
+use crate::endings::Ending;
 use crate::reports::{admission_count, error_count, report_lines};
-use crate::write::write_all;
-use base_core::{FileFault, FileSet, Sink, Steps};
-use doc_check::check_text;
-use prover_iface::{Prover, Report};
+use base_core::{FileFault, FileSet, Halt, Sink, Steps, write_all};
+use doc_check::{Report, check_text};
+use prover_iface::Prover;
 use std::alloc::Global;
 use std::str;
 use std::sync::ledger::Ledger;
@@ -40,7 +41,8 @@ fn report_text<S: Sink, P: Prover, C: Ledger>(
     out: &mut S,
     steps: &mut Steps<C>,
 ) -> Result<Ending, Halt>
-    ensures told { EndsAs (text_outcome (λ text. checked P.first P.after P.diagnosed P.opened P.outline_of text) name.now doc.now) result (S.written out.old) (S.written out.new) }
+    ensures told { EndsAs (text_outcome (checked P.means) name.now doc.now) result
+        (S.written out.old) (S.written out.new) }
     ensures failed { IsErrOf result Halt.SinkFailed → Rose (S.faults out.old) (S.faults out.new) }
     ensures read { IfOk result (λ ending. ending ≢ Ending.NotRead) }
 {
@@ -59,8 +61,9 @@ fn check_bytes<S: Sink, P: Prover, C: Ledger>(
     out: &mut S,
     steps: &mut Steps<C>,
 ) -> Result<Ending, Halt>
-    requires { length bytes.now ≤ 1048576 }
-    ensures told { EndsAs (bytes_outcome (λ text. checked P.first P.after P.diagnosed P.opened P.outline_of text) name.now bytes.now) result (S.written out.old) (S.written out.new) }
+    requires { length bytes.now ≤ TEXT_LIMIT }
+    ensures told { EndsAs (bytes_outcome (checked P.means) name.now bytes.now) result
+        (S.written out.old) (S.written out.new) }
     ensures failed { IsErrOf result Halt.SinkFailed → Rose (S.faults out.old) (S.faults out.new) }
     ensures read { IfOk result (λ ending. ending ≢ Ending.NotRead) }
 {
@@ -83,7 +86,9 @@ pub fn check_file<S: Sink, F: FileSet, P: Prover, C: Ledger>(
     files: &mut F,
     steps: &mut Steps<C>,
 ) -> Result<Ending, Halt>
-    ensures told { IfSome (F.content files.old) (λ listed. EndsAs (file_outcome (λ text. checked P.first P.after P.diagnosed P.opened P.outline_of text) name.now (file_at listed name.now)) result (S.written out.old) (S.written out.new)) }
+    ensures told { IfSome (F.content files.old) (λ listed.
+        EndsAs (file_outcome (checked P.means) name.now (file_at listed name.now)) result
+        (S.written out.old) (S.written out.new)) }
     ensures failed { IsErrOf result Halt.SinkFailed → Rose (S.faults out.old) (S.faults out.new) }
     ensures not_read { result ≡ Ok Ending.NotRead → Rose (F.faults files.old) (F.faults files.new) }
 {

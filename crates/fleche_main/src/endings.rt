@@ -1,9 +1,8 @@
+//! How the check of a file ends.
 ghost use Rattle.std.specs.Prelude.{◌≡◌};
-ghost use Rattle.fleche_main.specs.Status.{result_status, IsStatus};
+ghost use Rattle.fleche_main.specs.Status.{kind_of, result_status, IsStatus};
 
-use base_core::NoMem;
-use std::alloc::AllocError;
-use thiserror::Error;
+use base_core::{Halt, Status};
 
 /// How the check of a file ends where memory serves and each put is taken.
 #[derive(Clone, Copy, Debug, PartialEq, Eq)]
@@ -18,34 +17,14 @@ pub enum Ending {
     NotText,
 }
 
-/// Why a run is broken off.
-#[derive(Clone, Copy, Debug, PartialEq, Eq, Error)]
-pub enum Halt {
-    #[error("out of memory")]
-    NoMem,
-    #[error("not written")]
-    SinkFailed,
-}
-
-impl From<NoMem> for Halt {
-    ghost use Rattle.std.specs.Prelude.{◌≡◌};
-    ghost use Rattle.fleche_main.specs.declared.endings.Halt.TheVariants.{NoMem as OutOfMemory};
-
-    ghost from_gives = { λ _ e. e ≡ OutOfMemory };
-
-    fn from(_error: NoMem) -> Halt {
-        Halt::NoMem
-    }
-}
-
-impl From<AllocError> for Halt {
-    ghost use Rattle.std.specs.Prelude.{◌≡◌};
-    ghost use Rattle.fleche_main.specs.declared.endings.Halt.TheVariants.{NoMem as OutOfMemory};
-
-    ghost from_gives = { λ _ e. e ≡ OutOfMemory };
-
-    fn from(_error: AllocError) -> Halt {
-        Halt::NoMem
+fn status(end: Ending) -> Status
+    ensures { result ≡ kind_of end }
+{
+    match end {
+        Ending::Clean => Status::Done,
+        Ending::Unclean => Status::Unclean,
+        Ending::NotRead => Status::NotRead,
+        Ending::NotText => Status::NotText,
     }
 }
 
@@ -55,11 +34,7 @@ pub fn number(end: Result<Ending, Halt>) -> u8
     ensures known { IsStatus result }
 {
     match end {
-        Ok(Ending::Clean) => 0,
-        Err(Halt::NoMem) => 4,
-        Err(Halt::SinkFailed) => 5,
-        Ok(Ending::Unclean) => 8,
-        Ok(Ending::NotRead) => 9,
-        Ok(Ending::NotText) => 11,
+        Ok(ending) => status(ending).number(),
+        Err(halt) => halt.status().number(),
     }
 }

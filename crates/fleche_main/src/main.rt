@@ -9,7 +9,6 @@ mod endings;
 mod reports;
 mod run;
 mod words;
-mod write;
 
 use base_core::{DirFiles, FileSet, Link, Sink, StdLink, StdSink, Steps};
 use std::alloc::Global;

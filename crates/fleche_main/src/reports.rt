@@ -1,9 +1,13 @@
+//! The lines that are written for a file.
 ghost use Rattle.std.specs.Prelude.{◌≡◌, ◌==◌, ◌++◌, ◌+◌, ◌<◌, ◌≤◌, All, IfOk, OnOk, length, string_bytes};
-ghost use Rattle.prover_iface.specs.Check.{IsPlaced};
-ghost use Rattle.fleche_main.specs.Reports.{severity_word, diag_line, diag_lines, kind_word, lists_axioms, spaced, bracket, listed_axioms, item_line, item_lines, is_admitted, error_count, admission_count, end_line, file_report};
+ghost use Rattle.doc_check.specs.Check.{IsPlaced};
+ghost use Rattle.fleche_main.specs.Reports.{severity_word, diag_line, diag_lines, kind_word, lists_axioms, spaced, bracket};
+ghost use Rattle.fleche_main.specs.Reports.{listed_axioms, item_line, item_lines, is_admitted, error_count, admission_count};
+ghost use Rattle.fleche_main.specs.Reports.{end_line, file_report};
 
 use base_core::Text;
-use prover_iface::{ItemKind, OutlineItem, RelDiag, Report};
+use doc_check::{AbsDiag, Report};
+use prover_iface::{ItemKind, OutlineItem};
 use std::alloc::{AllocError, Global};
 use utf16_doc::Doc;
 
@@ -18,7 +22,7 @@ fn severity_word(severity: u8) -> &'static str
 }
 
 /// `FILE:L:C: SEV CODE: TEXT`, with line and character from 1.
-fn add_diag(lines: &mut String, name: &str, doc: &Doc, diag: &RelDiag) -> Result<(), AllocError>
+fn add_diag(lines: &mut String, name: &str, doc: &Doc, diag: &AbsDiag) -> Result<(), AllocError>
     requires { diag.now.from ≤ length doc.now }
     ensures { OnOk result (string_bytes lines.new ≡ string_bytes lines.old ++ diag_line name.now doc.now diag.now) }
 {
@@ -34,7 +38,7 @@ fn add_diag(lines: &mut String, name: &str, doc: &Doc, diag: &RelDiag) -> Result
     )
 }
 
-fn add_diags(lines: &mut String, name: &str, doc: &Doc, diags: &[RelDiag]) -> Result<(), AllocError>
+fn add_diags(lines: &mut String, name: &str, doc: &Doc, diags: &[AbsDiag]) -> Result<(), AllocError>
     requires { All (IsPlaced (length doc.now)) diags.now }
     ensures { OnOk result (string_bytes lines.new ≡ string_bytes lines.old ++ diag_lines name.now doc.now diags.now) }
 {
@@ -127,7 +131,7 @@ fn add_items(lines: &mut String, name: &str, items: &[OutlineItem]) -> Result<()
 }
 
 /// How many diagnostics are errors.
-pub fn error_count(diags: &[RelDiag]) -> usize
+pub fn error_count(diags: &[AbsDiag]) -> usize
     ensures { result ≡ error_count diags.now }
 {
     diags.iter().filter(|diag| diag.severity == 1).count()

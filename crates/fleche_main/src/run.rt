@@ -1,16 +1,15 @@
-ghost use Rattle.std.specs.Prelude.{◌≡◌, ◌↔◌, ℕ, List, Bool, map, string_bytes, IfSome};
+//! The words of a command line are run.
+ghost use Rattle.std.specs.Prelude.{◌≡◌, ◌↔◌, ℕ, List, Bool, map, string_bytes};
 ghost use Rattle.base_core.specs.Faults.{Rose};
-ghost use Rattle.base_core.specs.Files.{file_at};
 ghost use Rattle.fleche_main.specs.Words.{form_of, NoForm, Document, Session};
-ghost use Rattle.fleche_main.specs.Outcome.{file_outcome};
-ghost use Rattle.fleche_main.specs.Run.{Ends, document_report, IsSession, HasStatus};
+ghost use Rattle.fleche_main.specs.Run.{ChecksFile, IsSession, HasStatus};
 
 use crate::checks::check_file;
 use crate::endings::number;
 use crate::words::{file_named, session_named};
-use base_core::{FileSet, Link, Sink, Steps};
+use base_core::{FileSet, Link, Sink, Status, Steps};
 use cic_prover::CicProver;
-use sched_core::serve;
+use lsp_session::serve;
 use std::alloc::Global;
 use std::sync::ledger::Ledger;
 
@@ -28,11 +27,13 @@ pub fn run<L: Link, S: Sink, F: FileSet, C: Ledger>(
     ensures no_form { result ≡ 2 → (link.new ≡ link.old) × (out.new ≡ out.old) × (files.new ≡ files.old) }
 
     // A file is checked: where the files are told, it ends and writes as the file decides.
-    ensures check { (name : List ℕ) → form_of (map string_bytes words.now) ≡ Document name → IfSome (F.content files.old) (λ listed. Ends (file_outcome document_report name (file_at listed name)) result (S.written out.old) (S.written out.new)) }
+    ensures check { ChecksFile (form_of (map string_bytes words.now)) (F.content files.old) result
+        (S.written out.old) (S.written out.new) }
     ensures no_poll { (name : List ℕ) → form_of (map string_bytes words.now) ≡ Document name → link.new ≡ link.old }
 
     // A session: where link and sink tell, what is written is what the plain session writes.
-    ensures serve { (paced : Bool) → form_of (map string_bytes words.now) ≡ Session paced → IsSession paced result (S.written out.old) (S.written out.new) (L.polls link.old) (L.polls link.new) }
+    ensures serve { (paced : Bool) → form_of (map string_bytes words.now) ≡ Session paced → IsSession paced result
+        steps.old steps.new (S.written out.old) (S.written out.new) (L.polls link.old) (L.polls link.new) }
     ensures no_read { (paced : Bool) → form_of (map string_bytes words.now) ≡ Session paced → files.new ≡ files.old }
 
     // 3, 5 and 9 come only where the link, the sink or the files count a fault more.
@@ -46,6 +47,6 @@ pub fn run<L: Link, S: Sink, F: FileSet, C: Ledger>(
     }
     match file_named(words) {
         Some(name) => number(check_file(alloc, &CicProver::new(), name, out, files, steps)),
-        None => 2,
+        None => Status::NoForm.number(),
     }
 }

@@ -1,6 +1,3 @@
-//! What no clause says: the worked examples, over all crates below.
+//! What no clause says: the worked examples of the whole program.
 
-mod documents;
-mod provers;
 mod rows;
-mod sessions;

@@ -1,3 +1,4 @@
+//! The forms of a command line.
 ghost use Rattle.std.specs.Prelude.{◌≡◌, map, string_bytes, MatchOption, None, Some};
 ghost use Rattle.fleche_main.specs.Words.{is_file, file_named, session_named};
 
@@ -13,7 +14,8 @@ fn is_file(word: &str) -> bool
 
 /// The file that the words ask to check, if they have the form `check FILE`.
 pub fn file_named(words: &[String]) -> Option<&str>
-    ensures { MatchOption result (file_named (map string_bytes words.now) ≡ None) (λ name. file_named (map string_bytes words.now) ≡ Some name.now) }
+    ensures { MatchOption result (file_named (map string_bytes words.now) ≡ None)
+        (λ name. file_named (map string_bytes words.now) ≡ Some name.now) }
 {
     match words {
         [command, file] if command.as_str() == "check" && is_file(file.as_str()) => {

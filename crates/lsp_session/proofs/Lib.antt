@@ -1,7 +1,14 @@
-pub mod Pieces
-pub mod Joins
 pub mod Heard
-pub mod Turned
+pub mod Joins
 pub mod Played
 pub mod Told
+pub mod Turned
 pub mod Statuses
+pub mod Begun
+pub mod PhaseLemmas
+pub mod CauseLemmas
+pub mod EndingLemmas
+pub mod StatusLemmas
+pub mod LeavingLemmas
+pub mod GivenLemmas
+pub mod ServedLemmas

@@ -1,10 +1,10 @@
 -- A session answers no other status.
 use Rattle.std.proofs.Common.{Result, Ok, Err, refl, lit<}
-use Rattle.lsp_session.specs.declared.endings.Exit.TheVariants.{Clean, Early}
+use Rattle.sched_core.specs.declared.events.Exit.TheVariants.{Clean, Early}
 use Rattle.lsp_session.specs.declared.endings.Ending.{Ending}
 use Rattle.lsp_session.specs.declared.endings.Ending.TheVariants.{Exit, LinkFailed, LinkEnded, FrameFault, TakenLimit}
-use Rattle.lsp_session.specs.declared.endings.Halt.{Halt}
-use Rattle.lsp_session.specs.declared.endings.Halt.TheVariants.{NoMem, SinkFailed}
+use Rattle.base_core.specs.declared.writing.Halt.{Halt}
+use Rattle.base_core.specs.declared.writing.Halt.TheVariants.{NoMem, SinkFailed}
 use Rattle.lsp_session.specs.Status.{result_status, IsStatus}
 
 pub result_status-known : (result : Result Ending Halt) → IsStatus (result_status result)

@@ -1,6 +1,7 @@
 pub mod Rules
 pub mod Run
 pub mod Status
-pub mod Writes
 pub mod Calls
 pub mod Serves
+pub mod Served
+pub mod Causes

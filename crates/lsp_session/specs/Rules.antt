@@ -1,31 +1,34 @@
--- What a machine of steps means.
-use Rattle.std.specs.Prelude.{◌≡◌, ℕ, Bool, Option, Result, Ok, Err, List}
+-- The steps of a session, and their work.
+use Rattle.std.specs.Prelude.{ℕ, ◌+◌, Bool, List}
 use Rattle.std.specs.List.{flat_map}
 use Rattle.rpc_frames.specs.Frames.{framed}
-use Rattle.lsp_types.specs.declared.messages.Incoming.{Incoming}
-use Rattle.lsp_types.specs.declared.messages.DecodeFault.{DecodeFault}
-use Rattle.base_core.specs.declared.memory.NoMem.{NoMem}
-use Rattle.lsp_session.specs.declared.endings.Exit.{Exit}
-use Rattle.lsp_session.specs.declared.machine.Written.{Written}
+use Rattle.sched_core.specs.declared.events.Event.{Event}
+use Rattle.sched_core.specs.Step.{Step}
 
--- what a step makes: the state behind it, the bodies it gives, and the exit, where it is the last
-pub record Step (S : Type 0) : Type 0 where
-  pub state : S
-  pub bodies : List (List ℕ)
-  pub exit : Option Exit
-
--- the steps of a plain session: by a message as it was decoded, and where nothing came; and whether all
--- that could be done without a message is done
+-- the step of each event, and whether nothing is to be done until something comes
 pub record Rules (S : Type 0) : Type 0 where
-  pub heard : S → Result Incoming DecodeFault → Step S
-  pub idle : S → Step S
-  pub is_ended : S → Bool
+  pub step : S → Event → Step S
+  pub waits : S → Bool
+
+-- a state, with the work that was done up to it
+pub record Counted (S : Type 0) : Type 0 where
+  pub plain : S
+  pub work : ℕ
+
+abbrev pub counted : {S : Type 0} → S → ℕ → Counted S
+counted state work = record { plain = state; work = work }
+
+-- a step after so much work
+abbrev pub counted_step : {S : Type 0} → ℕ → Step S → Step (Counted S)
+counted_step before step = record { state = counted step.state (before + step.work); bodies = step.bodies; exit = step.exit; work = step.work }
+
+-- the same steps, with their work
+abbrev pub counting : {S : Type 0} → Rules S → Rules (Counted S)
+counting rules = record {
+  step = λ state event. counted_step state.work (rules.step state.plain event);
+  waits = λ state. rules.waits state.plain;
+}
 
 -- the bytes of a step: its bodies, each framed
 abbrev pub said : {S : Type 0} → Step S → List ℕ
 said step = flat_map framed step.bodies
-
--- a call makes this step, unless memory runs out
-abbrev pub Makes : {S : Type 0} → Step S → Result Written NoMem → S → Type 0
-Makes step (Ok written) state = (written.bodies ≡ step.bodies) × (written.exit ≡ step.exit) × (state ≡ step.state)
-Makes step (Err none) state = Unit {0}

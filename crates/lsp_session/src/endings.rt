@@ -1,16 +1,9 @@
-ghost use Rattle.std.specs.Prelude.{◌≡◌, ◌≢◌, Ok, Err};
-ghost use Rattle.lsp_session.specs.Status.{result_status, IsStatus};
+//! How a session ends.
+ghost use Rattle.std.specs.Prelude.{◌≡◌, Ok, Err};
+ghost use Rattle.lsp_session.specs.Status.{kind_of, result_status, IsStatus};
 
-use base_core::NoMem;
-use thiserror::Error;
-
-/// How a client ends a session.
-#[derive(Clone, Copy, Debug, PartialEq, Eq)]
-pub enum Exit {
-    /// It asked for the end before.
-    Clean,
-    Early,
-}
+use base_core::{Halt, Status};
+use sched_core::Exit;
 
 /// How a session ends where memory serves and each put is taken.
 #[derive(Clone, Copy, Debug, PartialEq, Eq)]
@@ -24,23 +17,16 @@ pub enum Ending {
     TakenLimit,
 }
 
-/// Why a session is broken off.
-#[derive(Clone, Copy, Debug, PartialEq, Eq, Error)]
-pub enum Halt {
-    #[error("out of memory")]
-    NoMem,
-    #[error("not written")]
-    SinkFailed,
-}
-
-impl From<NoMem> for Halt {
-    ghost use Rattle.std.specs.Prelude.{◌≡◌};
-    ghost use Rattle.lsp_session.specs.declared.endings.Halt.TheVariants.{NoMem as OutOfMemory};
-
-    ghost from_gives = { λ _ e. e ≡ OutOfMemory };
-
-    fn from(_error: NoMem) -> Halt {
-        Halt::NoMem
+fn status(end: Ending) -> Status
+    ensures { result ≡ kind_of end }
+{
+    match end {
+        Ending::Exit(Exit::Clean) => Status::Done,
+        Ending::Exit(Exit::Early) => Status::LeftEarly,
+        Ending::LinkFailed => Status::LinkFailed,
+        Ending::LinkEnded => Status::LinkEnded,
+        Ending::FrameFault => Status::FrameFault,
+        Ending::TakenLimit => Status::TakenLimit,
     }
 }
 
@@ -50,13 +36,7 @@ pub fn number(end: Result<Ending, Halt>) -> u8
     ensures known { IsStatus result }
 {
     match end {
-        Ok(Ending::Exit(Exit::Clean)) => 0,
-        Ok(Ending::Exit(Exit::Early)) => 1,
-        Ok(Ending::LinkFailed) => 3,
-        Err(Halt::NoMem) => 4,
-        Err(Halt::SinkFailed) => 5,
-        Ok(Ending::LinkEnded) => 6,
-        Ok(Ending::FrameFault) => 7,
-        Ok(Ending::TakenLimit) => 10,
+        Ok(ending) => status(ending).number(),
+        Err(halt) => halt.status().number(),
     }
 }

@@ -1,16 +1,16 @@
-//! The loop of a session: it polls a link, steps a machine for each message that came, and writes
-//! what a step gives before the next poll.
+//! The loop of a session: it polls a link, takes a step for each message that came, and writes what a step gives
+//! before the next poll.
 #![tactic(auto)]
 
 mod endings;
+mod laws;
 mod machine;
 mod messages;
 mod session;
-#[cfg(test)]
-mod tests;
 mod turns;
 mod write;
 
-pub use endings::Exit;
-pub use machine::{BytesList, Machine, Written};
-pub use session::serve;
+pub use laws::{
+    law_of_completeness, law_of_endings, law_of_exits, law_of_serving, law_of_statuses,
+};
+pub use session::{serve, serve_within};

@@ -1,96 +1,74 @@
-ghost use Rattle.std.specs.Prelude.{◌≡◌, ◌+◌, ◌<◌, ◌≤◌, Bool, false, ℕ, OnOk, [], ◌∷◌, ◌++◌};
-ghost use Rattle.lsp_session.specs.Rules.{Rules, Makes};
+//! What a session drives.
+ghost use Rattle.std.specs.Prelude.{◌≡◌, ℕ, OnOk};
+ghost use Rattle.prover_iface.specs.Exec.{Worked};
+ghost use Rattle.sched_core.specs.Step.{Makes};
+ghost use Rattle.lsp_session.specs.Rules.{Rules};
+ghost use Rattle.lsp_session.specs.Calls.{LeavesIdle};
 
-use crate::Exit;
-use base_core::{Bytes, NoMem, Steps};
-use lsp_types::{DecodeFault, Incoming};
+use base_core::{NoMem, Steps};
+use prover_iface::Prover;
+use sched_core::{Event, Sched, Written};
 use std::alloc::Global;
-use std::marker::Model;
 use std::sync::ledger::Ledger;
 
-/// Bodies of messages, in order.
-#[derive(Debug, Drop)]
-pub struct BytesList {
-    items: Vec<Bytes>,
-}
-
-impl Model for BytesList {
-    ghost use Rattle.std.specs.Prelude.{ℕ, List};
-
-    ghost Value = { List (List ℕ) };
-
-    ghost view = { λ a. a.items.items };
-}
-
-impl BytesList {
-    pub fn new(alloc: Global) -> BytesList
-        ensures { result ≡ [] }
-    {
-        BytesList {
-            items: Vec::new(alloc),
-        }
-    }
-
-    pub fn push(&mut self, item: Bytes) -> Result<(), NoMem>
-        ensures { OnOk result (self.new ≡ self.old ++ item ∷ []) }
-    {
-        self.items.push(item)?;
-        Ok(())
-    }
-
-    pub fn as_slice(&self) -> &[Bytes]
-        ensures { result.now ≡ self.now }
-    {
-        self.items.as_slice()
-    }
-}
-
-/// What a step gives.
-#[derive(Debug, Drop)]
-pub struct Written {
-    /// Bodies of messages, to be written in order.
-    pub bodies: BytesList,
-    /// Where it is there, the step is the last.
-    pub exit: Option<Exit>,
-}
-
-/// What a session drives: it takes a message or a while without one, and gives the bodies that are
-/// then due. The rules of its steps are those of a paced session, or of one that isn't; they name no
-/// value of it: they are the same for each. What work a step does is counted.
-pub trait Machine {
+/// What a session drives: it takes a message or a while without one, and gives the bodies that are then due. The
+/// rules of its steps name no value of it: they are the same for each.
+pub(crate) trait Machine {
     /// What a machine is, for contracts.
     ghost Plain: { Type 0 };
 
     ghost plain: { Self → Plain };
 
-    ghost rules: { Bool → Rules Plain };
+    ghost rules: { Rules Plain };
 
-    /// How many idle steps it can still take.
+    /// How many steps it can still take without a message.
     ghost left: { Self → ℕ };
 
-    /// The step of a message. It adds no more idle steps than a text has bytes at most.
-    fn hear<C: Ledger>(
+    /// The step of an event.
+    fn step<C: Ledger>(
         &mut self,
         alloc: Global,
-        message: Result<Incoming, DecodeFault>,
-        paced: bool,
+        event: Event,
         steps: &mut Steps<C>,
     ) -> Result<Written, NoMem>
-        ensures step { Makes ((rules paced).heard (plain self.old) message) result (plain self.new) }
-        ensures few { OnOk result (left self.new ≤ left self.old + 1048576) };
+        ensures made { Makes (rules.step (plain self.old) event) result (plain self.new) }
+        ensures work { Worked (rules.step (plain self.old) event).work steps.old steps.new result }
+        ensures idles { OnOk result (LeavesIdle event (rules.waits (plain self.old)) (left self.old) (left self.new)) };
 
-    /// The step where nothing came.
-    fn idle<C: Ledger>(
+    /// Whether nothing is to be done until something comes.
+    fn waits(&self) -> bool
+        ensures { result ≡ rules.waits (plain self.now) };
+}
+
+/// The documents that are served.
+#[derive(Drop)]
+pub(crate) struct Server<P: Prover> {
+    pub(crate) sched: Sched<P>,
+}
+
+impl<P: Prover> Machine for Server<P> {
+    ghost use Rattle.doc_check.specs.Check.{views};
+    ghost use Rattle.sched_core.specs.Session.{Session, idles};
+    ghost use Rattle.lsp_session.specs.Served.{rules};
+
+    ghost Plain = { Session };
+
+    ghost plain = { λ s. s.sched };
+
+    ghost rules = { rules (views P.means) };
+
+    ghost left = { λ s. idles s.sched };
+
+    fn step<C: Ledger>(
         &mut self,
         alloc: Global,
-        paced: bool,
+        event: Event,
         steps: &mut Steps<C>,
-    ) -> Result<Written, NoMem>
-        requires { (rules paced).is_ended (plain self.old) ≡ false }
-        ensures step { Makes ((rules paced).idle (plain self.old)) result (plain self.new) }
-        ensures fewer { OnOk result (left self.new < left self.old) };
+    ) -> Result<Written, NoMem> {
+        self.sched.step(alloc, event, steps)
+    }
 
-    /// Whether all that can be done without a message is done.
-    fn all_ended(&self, paced: bool) -> bool
-        ensures { result ≡ (rules paced).is_ended (plain self.now) };
+    fn waits(&self) -> bool {
+        self.sched.is_paced() || self.sched.all_ended()
+    }
 }

@@ -1,19 +1,21 @@
 //! The messages of the bytes that came, each one step.
-ghost use Rattle.std.specs.Prelude.{◌≡◌, ◌+◌, ◌<◌, ◌≤◌, ℕ, None, Ok, length, OnOk, IfOk};
+ghost use Rattle.std.specs.Prelude.{◌≡◌, ◌+◌, ◌<◌, ◌≤◌, None, Ok, length, OnOk, IfOk};
 ghost use Rattle.std.specs.Result.{IsErrOf};
+ghost use Rattle.base_core.specs.declared.limits.TheConstants.{TEXT_LIMIT};
 ghost use Rattle.base_core.specs.Faults.{Rose};
-ghost use Rattle.rpc_frames.specs.Frames.{frames};
+ghost use Rattle.base_core.specs.Writes.{Writes, IsCalmWrite};
 ghost use Rattle.lsp_types.specs.Decoding.{decoded};
-ghost use Rattle.lsp_session.specs.Run.{all_heard, fault_bytes};
-ghost use Rattle.lsp_session.specs.Calls.{Emits, Does, Drains, Goes, weight_held};
-ghost use Rattle.lsp_session.specs.Writes.{Writes};
+ghost use Rattle.sched_core.specs.declared.events.Event.TheVariants as event;
+ghost use Rattle.lsp_session.specs.Rules.{counted, counting};
+ghost use Rattle.lsp_session.specs.Run.{fault_bytes};
+ghost use Rattle.lsp_session.specs.Calls.{Emits, Does, HearsAll, HearsOne, weight_held};
 
-use crate::endings::{Exit, Halt};
-use crate::machine::{Machine, Written};
+use crate::machine::Machine;
 use crate::write::{write_bodies, write_body};
-use base_core::{NoMem, Sink, Steps};
+use base_core::{Halt, NoMem, Sink, Steps};
 use lsp_types::{DecodeFault, ErrorCode, Id, Incoming, decode, encode_error};
 use rpc_frames::{FrameStop, Frames};
+use sched_core::{Event, Exit, Written};
 use std::alloc::Global;
 use std::sync::ledger::Ledger;
 
@@ -40,7 +42,7 @@ fn read_message(alloc: Global, body: &[u8]) -> Result<Result<Incoming, DecodeFau
 /// Writes what a step gave.
 pub fn emit<S: Sink>(alloc: Global, out: &mut S, written: &Written) -> Result<Option<Exit>, Halt>
     ensures written { Emits written.now result (S.written out.old) (S.written out.new) }
-    ensures later { S.faults out.old ≤ S.faults out.new }
+    ensures calm { IsCalmWrite result (S.faults out.old) (S.faults out.new) }
     ensures failed { IsErrOf result Halt.SinkFailed → Rose (S.faults out.old) (S.faults out.new) }
 {
     match write_bodies(alloc, out, written.bodies.as_slice()) {
@@ -53,20 +55,21 @@ pub fn emit<S: Sink>(alloc: Global, out: &mut S, written: &Written) -> Result<Op
 fn hear<S: Sink, M: Machine, C: Ledger>(
     alloc: Global,
     machine: &mut M,
-    paced: bool,
     out: &mut S,
     body: &[u8],
     steps: &mut Steps<C>,
 ) -> Result<Option<Exit>, Halt>
-    ensures does { Does ((M.rules paced).heard (M.plain machine.old) (decoded body.now)) result (M.plain machine.new) (S.written out.old) (S.written out.new) }
-    ensures few { OnOk result (M.left machine.new ≤ M.left machine.old + 1048576) }
-    ensures later { S.faults out.old ≤ S.faults out.new }
+    ensures does { let step =
+        (counting M.rules).step (counted (M.plain machine.old) steps.old) (event.Message (decoded body.now)) in
+        Does step result (counted (M.plain machine.new) steps.new) (S.written out.old) (S.written out.new) }
+    ensures few { OnOk result (M.left machine.new ≤ M.left machine.old + TEXT_LIMIT) }
+    ensures calm { IsCalmWrite result (S.faults out.old) (S.faults out.new) }
     ensures failed { IsErrOf result Halt.SinkFailed → Rose (S.faults out.old) (S.faults out.new) }
 {
     let Ok(message) = read_message(alloc, body) else {
         return Err(Halt::NoMem);
     };
-    let Ok(written) = machine.hear(alloc, message, paced, steps) else {
+    let Ok(written) = machine.step(alloc, Event::Message(message), steps) else {
         return Err(Halt::NoMem);
     };
     emit(alloc, out, &written)
@@ -86,20 +89,21 @@ fn refuse<S: Sink>(alloc: Global, out: &mut S) -> Result<(), Halt>
 fn next_message<S: Sink, M: Machine, C: Ledger>(
     alloc: Global,
     machine: &mut M,
-    paced: bool,
     reader: &mut Frames,
     out: &mut S,
     steps: &mut Steps<C>,
 ) -> Result<Option<Drained>, Halt>
-    ensures goes { (taken : ℕ) → Goes (λ s p t. all_heard (M.rules paced) taken (frames p) s t) taken (all_heard (M.rules paced) taken (frames reader.old.bytes) (M.plain machine.old) (S.written out.old)) result (M.plain machine.new) reader.new.bytes (S.written out.old) (S.written out.new) }
+    ensures goes { HearsOne (counting M.rules) reader.old.bytes (counted (M.plain machine.old) steps.old) result
+        (counted (M.plain machine.new) steps.new) reader.new.bytes (S.written out.old) (S.written out.new) }
     ensures shorter { result ≡ Ok None → length reader.new.bytes < length reader.old.bytes }
-    ensures few { OnOk result (weight_held (length reader.new.bytes) (M.left machine.new) ≤ weight_held (length reader.old.bytes) (M.left machine.old)) }
-    ensures later { S.faults out.old ≤ S.faults out.new }
+    ensures few { let before = weight_held (length reader.old.bytes) (M.left machine.old) in
+        OnOk result (weight_held (length reader.new.bytes) (M.left machine.new) ≤ before) }
+    ensures calm { IsCalmWrite result (S.faults out.old) (S.faults out.new) }
     ensures failed { IsErrOf result Halt.SinkFailed → Rose (S.faults out.old) (S.faults out.new) }
 {
     match reader.next(alloc) {
         Ok(None) => Ok(Some(Drained::Rest)),
-        Ok(Some(body)) => match hear(alloc, machine, paced, out, body.as_slice(), steps) {
+        Ok(Some(body)) => match hear(alloc, machine, out, body.as_slice(), steps) {
             Ok(None) => Ok(None),
             Ok(Some(exit)) => Ok(Some(Drained::Exit(exit))),
             Err(halt) => Err(halt),
@@ -116,18 +120,19 @@ fn next_message<S: Sink, M: Machine, C: Ledger>(
 pub fn drain<S: Sink, M: Machine, C: Ledger>(
     alloc: Global,
     machine: &mut M,
-    paced: bool,
     reader: &mut Frames,
     out: &mut S,
     steps: &mut Steps<C>,
 ) -> Result<Drained, Halt>
-    ensures drains { (taken : ℕ) → Drains taken (all_heard (M.rules paced) taken (frames reader.old.bytes) (M.plain machine.old) (S.written out.old)) result (M.plain machine.new) reader.new.bytes (S.written out.old) (S.written out.new) }
-    ensures few { OnOk result (weight_held (length reader.new.bytes) (M.left machine.new) ≤ weight_held (length reader.old.bytes) (M.left machine.old)) }
-    ensures later { S.faults out.old ≤ S.faults out.new }
+    ensures drains { HearsAll (counting M.rules) reader.old.bytes (counted (M.plain machine.old) steps.old) result
+        (counted (M.plain machine.new) steps.new) reader.new.bytes (S.written out.old) (S.written out.new) }
+    ensures few { let before = weight_held (length reader.old.bytes) (M.left machine.old) in
+        OnOk result (weight_held (length reader.new.bytes) (M.left machine.new) ≤ before) }
+    ensures calm { IsCalmWrite result (S.faults out.old) (S.faults out.new) }
     ensures failed { IsErrOf result Halt.SinkFailed → Rose (S.faults out.old) (S.faults out.new) }
 {
     loop {
-        match next_message(alloc, machine, paced, reader, out, steps) {
+        match next_message(alloc, machine, reader, out, steps) {
             Ok(None) => {}
             Ok(Some(last)) => return Ok(last),
             Err(halt) => return Err(halt),

@@ -1,24 +1,21 @@
 //! One poll, and all that it brings.
-ghost use Rattle.std.specs.Prelude.{◌≡◌, ◌≢◌, ◌||◌, ◌+◌, ◌++◌, ◌<◌, ◌≤◌, ℕ, false, Ok, length, OnOk};
+ghost use Rattle.std.specs.Prelude.{◌≡◌, ◌≢◌, ◌+◌, ◌++◌, ◌<◌, ◌≤◌, false, Ok, length, OnOk};
 ghost use Rattle.std.specs.Result.{IsErrOf};
 ghost use Rattle.base_core.specs.Faults.{Rose};
-ghost use Rattle.rpc_frames.specs.Frames.{frames};
-ghost use Rattle.lsp_session.specs.Run.{Going, all_heard, byte_limit, most_asked};
-ghost use Rattle.lsp_session.specs.Calls.{Does, Drains, Turns, after_bytes, after_idle, weight, weight_held};
+ghost use Rattle.base_core.specs.Writes.{IsCalmWrite};
+ghost use Rattle.sched_core.specs.declared.events.Event.TheVariants as event;
+ghost use Rattle.lsp_session.specs.Rules.{counted, counting};
+ghost use Rattle.lsp_session.specs.Run.{Going, most_asked};
+ghost use Rattle.lsp_session.specs.Calls.{Does, HearsAll, Turns, IsCalmTurn, after_bytes, after_idle, weight, weight_held};
 
-use crate::endings::{Ending, Exit, Halt};
+use crate::endings::Ending;
 use crate::machine::Machine;
 use crate::messages::{Drained, drain, emit};
-use base_core::{Link, Sink, Steps, Taken};
+use base_core::{Halt, Link, POLL_LIMIT, Sink, Steps, Taken};
 use rpc_frames::Frames;
+use sched_core::{Event, Exit};
 use std::alloc::Global;
 use std::sync::ledger::Ledger;
-
-/// How many bytes a session takes at most.
-pub const BYTE_LIMIT: u64 = 1_099_511_627_776;
-
-/// How many bytes a poll asks for at most.
-pub const PIECE: usize = 4096;
 
 /// What became of a poll.
 #[derive(Clone, Copy, Debug, PartialEq, Eq)]
@@ -34,19 +31,21 @@ pub enum Turn {
 fn take_in<S: Sink, M: Machine, C: Ledger>(
     alloc: Global,
     machine: &mut M,
-    paced: bool,
     reader: &mut Frames,
     out: &mut S,
     piece: &[u8],
     steps: &mut Steps<C>,
 ) -> Result<Drained, Halt>
-    ensures drains { (taken : ℕ) → Drains taken (all_heard (M.rules paced) taken (frames (reader.old.bytes ++ piece.now)) (M.plain machine.old) (S.written out.old)) result (M.plain machine.new) reader.new.bytes (S.written out.old) (S.written out.new) }
-    ensures few { OnOk result (weight_held (length reader.new.bytes) (M.left machine.new) ≤ weight_held (length reader.old.bytes + length piece.now) (M.left machine.old)) }
-    ensures later { S.faults out.old ≤ S.faults out.new }
+    ensures drains { HearsAll (counting M.rules) (reader.old.bytes ++ piece.now)
+        (counted (M.plain machine.old) steps.old) result
+        (counted (M.plain machine.new) steps.new) reader.new.bytes (S.written out.old) (S.written out.new) }
+    ensures few { let before = weight_held (length reader.old.bytes + length piece.now) (M.left machine.old) in
+        OnOk result (weight_held (length reader.new.bytes) (M.left machine.new) ≤ before) }
+    ensures calm { IsCalmWrite result (S.faults out.old) (S.faults out.new) }
     ensures failed { IsErrOf result Halt.SinkFailed → Rose (S.faults out.old) (S.faults out.new) }
 {
     match reader.feed(piece) {
-        Ok(()) => drain(alloc, machine, paced, reader, out, steps),
+        Ok(()) => drain(alloc, machine, reader, out, steps),
         Err(_) => Err(Halt::NoMem),
     }
 }
@@ -55,30 +54,30 @@ fn take_in<S: Sink, M: Machine, C: Ledger>(
 fn idle<S: Sink, M: Machine, C: Ledger>(
     alloc: Global,
     machine: &mut M,
-    paced: bool,
     out: &mut S,
     steps: &mut Steps<C>,
 ) -> Result<Option<Exit>, Halt>
-    requires { (M.rules paced).is_ended (M.plain machine.old) ≡ false }
-    ensures does { Does ((M.rules paced).idle (M.plain machine.old)) result (M.plain machine.new) (S.written out.old) (S.written out.new) }
+    requires { M.rules.waits (M.plain machine.old) ≡ false }
+    ensures does { let step = (counting M.rules).step (counted (M.plain machine.old) steps.old) event.Idle in
+        Does step result (counted (M.plain machine.new) steps.new) (S.written out.old) (S.written out.new) }
     ensures fewer { OnOk result (M.left machine.new < M.left machine.old) }
-    ensures later { S.faults out.old ≤ S.faults out.new }
+    ensures calm { IsCalmWrite result (S.faults out.old) (S.faults out.new) }
     ensures failed { IsErrOf result Halt.SinkFailed → Rose (S.faults out.old) (S.faults out.new) }
 {
-    match machine.idle(alloc, paced, steps) {
+    match machine.step(alloc, Event::Idle, steps) {
         Ok(written) => emit(alloc, out, &written),
         Err(_) => Err(Halt::NoMem),
     }
 }
 
 /// How many bytes the next poll asks for.
-pub fn most_asked(taken: u64) -> usize
-    requires { taken < byte_limit }
-    ensures asked { result ≡ most_asked taken }
+pub fn most_asked(limit: u64, taken: u64) -> usize
+    requires { taken < limit }
+    ensures asked { result ≡ most_asked limit taken }
     ensures some { 0 < result }
     ensures within { result ≤ 4096 }
 {
-    (PIECE as u64).min(BYTE_LIMIT - taken) as usize
+    (POLL_LIMIT as u64).min(limit - taken) as usize
 }
 
 fn after_bytes(drained: Drained) -> Turn
@@ -100,46 +99,43 @@ fn after_idle(exit: Option<Exit>) -> Turn
     }
 }
 
-/// Whether the next poll waits.
-fn waits<M: Machine>(paced: bool, machine: &M) -> bool
-    ensures { result ≡ (paced || (M.rules paced).is_ended (M.plain machine.now)) }
-{
-    paced || machine.all_ended(paced)
-}
-
 /// One poll, and all that it brings: of what came each message, or else an idle step.
 pub fn take_turn<L: Link, S: Sink, M: Machine, C: Ledger>(
     alloc: Global,
     link: &mut L,
     out: &mut S,
-    paced: bool,
     machine: &mut M,
     reader: &mut Frames,
+    limit: u64,
     taken: &mut u64,
     buf: &mut [u8],
     steps: &mut Steps<C>,
 ) -> Result<Turn, Halt>
-    requires few { taken.old < byte_limit }
-    requires room { length buf.old ≡ most_asked taken.old }
-    ensures turns { Turns (M.rules paced) paced (Going (M.plain machine.old) reader.old.bytes taken.old (S.written out.old)) result (M.plain machine.new) reader.new.bytes taken.new (S.written out.old) (S.written out.new) (L.polls link.old) (L.polls link.new) }
-    ensures lighter { result ≡ Ok Turn.On → weight taken.new (length reader.new.bytes) (M.left machine.new) < weight taken.old (length reader.old.bytes) (M.left machine.old) }
-    ensures within { taken.new ≤ byte_limit }
-    ensures later { S.faults out.old ≤ S.faults out.new }
+    requires few { taken.old < limit }
+    requires room { length buf.old ≡ most_asked limit taken.old }
+    ensures turns { let start =
+        Going (counted (M.plain machine.old) steps.old) reader.old.bytes taken.old (S.written out.old) in
+        Turns (counting M.rules) limit start result (counted (M.plain machine.new) steps.new) reader.new.bytes taken.new
+        (S.written out.old) (S.written out.new) (L.polls link.old) (L.polls link.new) }
+    ensures lighter { let before = weight limit taken.old (length reader.old.bytes) (M.left machine.old) in
+        result ≡ Ok Turn.On → weight limit taken.new (length reader.new.bytes) (M.left machine.new) < before }
+    ensures within { taken.new ≤ limit }
+    ensures calm { IsCalmWrite result (S.faults out.old) (S.faults out.new) }
     ensures failed { IsErrOf result Halt.SinkFailed → Rose (S.faults out.old) (S.faults out.new) }
-    ensures polled { L.faults link.old ≤ L.faults link.new }
+    ensures polled { IsCalmTurn result (L.faults link.old) (L.faults link.new) }
     ensures lost { result ≡ Ok Turn.Failed → Rose (L.faults link.old) (L.faults link.new) }
     ensures kept { result ≢ Ok (Turn.Over Ending.LinkFailed) }
 {
-    let wait = waits(paced, machine);
+    let wait = machine.waits();
     match link.poll(wait, buf) {
         Taken::Got(count) => {
             *taken += count as u64;
-            match take_in(alloc, machine, paced, reader, out, &buf[..count], steps) {
+            match take_in(alloc, machine, reader, out, &buf[..count], steps) {
                 Ok(drained) => Ok(after_bytes(drained)),
                 Err(halt) => Err(halt),
             }
         }
-        Taken::Idle => match idle(alloc, machine, paced, out, steps) {
+        Taken::Idle => match idle(alloc, machine, out, steps) {
             Ok(exit) => Ok(after_idle(exit)),
             Err(halt) => Err(halt),
         },

@@ -1,26 +1,12 @@
+//! The frames of bodies are written.
 ghost use Rattle.std.specs.Prelude.{◌≡◌};
 ghost use Rattle.std.specs.List.{flat_map};
+ghost use Rattle.base_core.specs.Writes.{Writes};
 ghost use Rattle.rpc_frames.specs.Frames.{framed};
-ghost use Rattle.lsp_session.specs.Writes.{Writes};
 
-use crate::endings::Halt;
-use base_core::{Bytes, Put, Sink};
+use base_core::{Bytes, Halt, Sink, write_all};
 use rpc_frames::write_frame;
 use std::alloc::Global;
-
-/// Offers bytes to a sink until all are taken.
-pub fn write_all<S: Sink>(out: &mut S, bytes: &[u8]) -> Result<(), Halt>
-    ensures { Writes S.written S.faults out.old out.new result bytes.now }
-{
-    let mut at = 0;
-    while at < bytes.len() {
-        match out.put(&bytes[at..]) {
-            Put::Took(taken) => at += taken,
-            Put::Failed => return Err(Halt::SinkFailed),
-        }
-    }
-    Ok(())
-}
 
 /// Writes the frame of a body.
 pub fn write_body<S: Sink>(alloc: Global, out: &mut S, body: &[u8]) -> Result<(), Halt>

@@ -1,11 +1,7 @@
-ghost use Rattle.std.specs.Prelude.{◌≡◌, ◌++◌, [], ◌∷◌, OnOk};
+//! What a sentence is told to its author.
+use base_core::{List, Text};
 
-use base_core::{NoMem, Text};
-use std::alloc::Global;
-use std::marker::Model;
-
-/// What a sentence is told to its author. Offsets are bytes, from the sentence's start as a prover
-/// gives it, and from the text's start in a report.
+/// What a sentence is told to its author. Offsets are bytes from the sentence's start.
 #[derive(Debug, Drop)]
 pub struct RelDiag {
     /// Error 1, warning 2, information 3 (LSP 3.17, "DiagnosticSeverity").
@@ -17,39 +13,4 @@ pub struct RelDiag {
 }
 
 /// Diagnostics in order.
-#[derive(Debug, Drop)]
-pub struct DiagList {
-    items: Vec<RelDiag>,
-}
-
-impl Model for DiagList {
-    ghost use Rattle.std.specs.Prelude.{List};
-    ghost use Rattle.prover_iface.specs.declared.diagnostics.RelDiag.{RelDiag};
-
-    ghost Value = { List RelDiag };
-
-    ghost view = { λ a. a.items.items };
-}
-
-impl DiagList {
-    pub fn new(alloc: Global) -> DiagList
-        ensures { result ≡ [] }
-    {
-        DiagList {
-            items: Vec::new(alloc),
-        }
-    }
-
-    pub fn push(&mut self, item: RelDiag) -> Result<(), NoMem>
-        ensures { OnOk result (self.new ≡ self.old ++ item ∷ []) }
-    {
-        self.items.push(item)?;
-        Ok(())
-    }
-
-    pub fn as_slice(&self) -> &[RelDiag]
-        ensures { result.now ≡ self.now }
-    {
-        self.items.as_slice()
-    }
-}
+pub type DiagList = List<RelDiag>;

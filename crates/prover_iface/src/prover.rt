@@ -1,11 +1,11 @@
+//! The trait of provers: one sentence at a time.
 ghost use Rattle.std.specs.Prelude.{◌≡◌, ℕ, ◌+◌, ◌^◌, ◌<◌, ◌≤◌, Option, List, All, length, IfOk, IfSome, MatchResult};
 ghost use Rattle.std.specs.Str.{IsUtf8};
 ghost use Rattle.base_core.specs.Fit.{IsFit};
-ghost use Rattle.prover_iface.specs.declared.diagnostics.RelDiag.{RelDiag};
-ghost use Rattle.prover_iface.specs.declared.outline.OutlineItem.{OutlineItem};
-ghost use Rattle.prover_iface.specs.declared.goals.GoalsView.{GoalsView};
+ghost use Rattle.base_core.specs.declared.limits.TheConstants.{COST_LIMIT};
 ghost use Rattle.prover_iface.specs.Sentences.{Sentence, sentence};
-ghost use Rattle.prover_iface.specs.Exec.{Answers, Works, fold_exec};
+ghost use Rattle.prover_iface.specs.Meanings.{Meanings, state_behind};
+ghost use Rattle.prover_iface.specs.Exec.{Answers, Works, Worked};
 ghost use Rattle.prover_iface.specs.Laws.{IsDiag, IsPast};
 
 use crate::{DiagList, GoalsView, OutlineList};
@@ -36,29 +36,13 @@ pub trait Prover: Drop {
 
     ghost meaning: { Self.State → Meaning };
 
-    /// The state before any sentence, and what it costs to make it.
-    ghost first: { Meaning };
-
-    ghost first_cost: { ℕ };
-
-    /// The state behind a sentence, what is told of the sentence, and its cost.
-    ghost after: { Meaning → Sentence → Meaning };
-
-    ghost diagnosed: { Meaning → Sentence → List RelDiag };
-
-    ghost cost: { Meaning → Sentence → ℕ };
-
-    /// What the calls of these names answer.
-    ghost opened: { Meaning → Option ℕ };
-
-    ghost goals_of: { Meaning → Option GoalsView };
-
-    ghost outline_of: { Meaning → List OutlineItem };
+    /// The first state, and what comes of a sentence and of a state.
+    ghost means: { Meanings Meaning };
 
     /// The state before any sentence.
     fn initial<C: Ledger>(&self, alloc: Global, steps: &mut Steps<C>) -> Result<Self::State, NoMem>
-        ensures first { IfOk result (λ s. meaning s ≡ first) }
-        ensures work { Works first_cost first_cost steps.old steps.new result };
+        ensures first { IfOk result (λ s. meaning s ≡ means.first) }
+        ensures work { Worked means.first_cost steps.old steps.new result };
 
     /// The same state once more.
     fn share(&self, state: &Self::State) -> Result<Self::State, NoMem>
@@ -76,29 +60,31 @@ pub trait Prover: Drop {
     ) -> Result<Outcome<Self::State>, NoMem>
         requires fit { IsFit kind text.now }
         requires short { length text.now < 2 ^ 32 }
-        ensures answer { IfOk result (Answers meaning (after (meaning state.now) (sentence kind text.now)) (diagnosed (meaning state.now) (sentence kind text.now)) (cost (meaning state.now) (sentence kind text.now)) units) }
-        ensures work { Works (cost (meaning state.now) (sentence kind text.now)) units steps.old steps.new result };
+        ensures answer { IfOk result (Answers meaning means (meaning state.now) (sentence kind text.now) units) }
+        ensures work {
+            Works (means.cost (meaning state.now) (sentence kind text.now)) units steps.old steps.new result
+        };
 
     /// The number of the sentence that began the proof under way.
     fn left_open(&self, state: &Self::State) -> Option<u32>
-        ensures { result ≡ opened (meaning state.now) };
+        ensures { result ≡ means.opened (meaning state.now) };
 
     /// The goals of the proof under way.
     fn goals(&self, alloc: Global, state: &Self::State) -> Result<Option<GoalsView>, NoMem>
-        ensures { IfOk result (λ goals. goals ≡ goals_of (meaning state.now)) };
+        ensures { IfOk result (λ goals. goals ≡ means.goals_of (meaning state.now)) };
 
     /// The declarations so far.
     fn outline(&self, alloc: Global, state: &Self::State) -> Result<OutlineList, NoMem>
-        ensures { IfOk result (λ outline. outline ≡ outline_of (meaning state.now)) };
+        ensures { IfOk result (λ outline. outline ≡ means.outline_of (meaning state.now)) };
 
-    /// No sentence costs more than all units of a sentence and one.
-    ghost bounded: { (m : Meaning) (s : Sentence) → cost m s ≤ 1000001 };
+    /// No sentence costs more than that.
+    ghost bounded: { (m : Meaning) (s : Sentence) → means.cost m s ≤ COST_LIMIT };
 
     /// What is told of a sentence stands at whole characters of it.
-    ghost placed: { (m : Meaning) (s : Sentence) → IsUtf8 s.text → IsFit s.kind s.text → All (IsDiag s.text) (diagnosed m s) };
+    ghost placed: { (m : Meaning) (s : Sentence) → IsUtf8 s.text → IsFit s.kind s.text → All (IsDiag s.text) (means.diagnosed m s) };
 
     /// The numbers that are answered are those of sentences before.
-    ghost opened_before: { (sentences : List Sentence) → IfSome (opened (fold_exec after first sentences)) (λ n. n < length sentences) };
+    ghost opened_before: { (ss : List Sentence) → IfSome (means.opened (state_behind means ss)) (λ n. n < length ss) };
 
-    ghost declared_before: { (sentences : List Sentence) → All (IsPast (length sentences)) (outline_of (fold_exec after first sentences)) };
+    ghost declared_before: { (ss : List Sentence) → All (IsPast (length ss)) (means.outline_of (state_behind means ss)) };
 }

@@ -72,7 +72,8 @@ fn read_text(bytes: &[u8], scan: Scan) -> Scan
 
 fn end_line(taken: usize, told: Option<u32>, text: &[u8]) -> Step
     requires { taken + length text.now + 2 < 2 ^ 64 }
-    ensures { (rest : List ℕ) (more : Lines) → EndsLine result (taken + length text.now + 2) rest more (header_of taken told (Line text.now rest more)) }
+    ensures { (rest : List ℕ) (more : Lines) →
+        EndsLine result (taken + length text.now + 2) rest more (header_of taken told (Line text.now rest more)) }
 {
     let next = taken + text.len() + 2;
     match (text, told) {

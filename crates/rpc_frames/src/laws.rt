@@ -13,7 +13,9 @@ pub fn any_cut()
 /// Where the bodies given and then the frames of the bytes held are the frames of all bytes fed, they
 /// are so after the next piece too.
 pub fn piece_after_piece()
-    ensures { (given : List (List ℕ)) (held fed piece : List ℕ) → with_bodies given (frames held) ≡ frames fed → with_bodies given (frames (held ++ piece)) ≡ frames (fed ++ piece) }
+    ensures { (given : List (List ℕ)) (held fed piece : List ℕ) →
+        with_bodies given (frames held) ≡ frames fed →
+        with_bodies given (frames (held ++ piece)) ≡ frames (fed ++ piece) }
 {}
 
 /// Reading what `write_frame` gives for a body of at most 4,194,304 bytes gives the body back, and
@@ -24,7 +26,9 @@ pub fn reads_what_is_written()
 
 /// So the frames of bodies that are written one after another are those bodies.
 pub fn reads_all_that_is_written()
-    ensures { (bodies : List (List ℕ)) (rest : List ℕ) → All (λ body. length body ≤ 4194304) bodies → frames (flat_map framed bodies ++ rest) ≡ with_bodies bodies (frames rest) }
+    ensures { (bodies : List (List ℕ)) (rest : List ℕ) →
+        All (λ body. length body ≤ 4194304) bodies →
+        frames (flat_map framed bodies ++ rest) ≡ with_bodies bodies (frames rest) }
 {}
 
 /// The bytes begin with a frame exactly where the grammar of frames says so.

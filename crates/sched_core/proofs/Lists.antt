@@ -6,7 +6,8 @@ use Rattle.serde_json.specs.Data.{Data}
 use Rattle.serde_json.specs.View.{view}
 use Rattle.serde_json.specs.declared.value.Value.{Value}
 use Rattle.base_core.specs.declared.places.Change.{Change}
-use Rattle.prover_iface.specs.declared.diagnostics.RelDiag.{RelDiag}
+use Rattle.base_core.specs.declared.places.Position.{Position}
+use Rattle.doc_check.specs.declared.diagnostics.AbsDiag.{AbsDiag}
 use Rattle.sched_core.specs.Bodies.{diag_data}
 use Rattle.sched_core.specs.Documents.{last_text}
 
@@ -22,14 +23,14 @@ last_of text (first ∷ changes) last h e =
     last_is text first changes last (e ∙ ap (λ i. get_or (first ∷ changes) i last) n)
 
 -- one diagnostic more
-pub diags_more : (text : List ℕ) (diags : List RelDiag) (i : ℕ) (diag : RelDiag) (values new : List Value) (value : Value) → i < length diags → diag ≡ get_or diags i diag → new ≡ values ++ value ∷ [] → view value ≡ diag_data text diag → map view values ++ map (diag_data text) (drop i diags) ≡ map (diag_data text) diags → map view new ++ map (diag_data text) (drop (i + 1) diags) ≡ map (diag_data text) diags
-diags_more text diags i diag values new value within is grown seen same =
+pub diags_more : (at : ℕ → Position) (diags : List AbsDiag) (i : ℕ) (diag : AbsDiag) (values new : List Value) (value : Value) → i < length diags → diag ≡ get_or diags i diag → new ≡ values ++ value ∷ [] → view value ≡ diag_data at diag → map view values ++ map (diag_data at) (drop i diags) ≡ map (diag_data at) diags → map view new ++ map (diag_data at) (drop (i + 1) diags) ≡ map (diag_data at) diags
+diags_more at diags i diag values new value within is grown seen same =
     let next : suc i ≡ i + 1 = omega arith in
-    let rest : List Data = map (diag_data text) (drop (i + 1) diags) in
+    let rest : List Data = map (diag_data at) (drop (i + 1) diags) in
     let parts : drop i diags ≡ diag ∷ drop (i + 1) diags = drop-cons diags i diag within ∙ ap (λ d. d ∷ drop (suc i) diags) (sym is) ∙ ap (λ n. diag ∷ drop n diags) next in
     ap (λ vs. map view vs ++ rest) grown
     ∙ ap (λ ds. ds ++ rest) (map-append view values (value ∷ []))
     ∙ append_assoc (map view values) (view value ∷ []) rest
     ∙ ap (λ d. map view values ++ d ∷ rest) seen
-    ∙ ap (λ ds. map view values ++ map (diag_data text) ds) (sym parts)
+    ∙ ap (λ ds. map view values ++ map (diag_data at) ds) (sym parts)
     ∙ same

@@ -1,99 +1,101 @@
 -- A step of the documents is that of the message.
-use Rattle.std.proofs.Common.{◌≡◌, ℕ, ℤ, ◌<◌, ◌≤◌, int_le, Bool, not, false, true, None, Some, Result, Ok, List, [], length, get_or, slice_set, nat_le, refl, ap, sym, subst, ◌∙◌, arith, if◌then◌else◌}
-use Rattle.std.proofs.lemmas.Bool.{lt-leb}
+use Rattle.std.proofs.Common.{◌≡◌, ℕ, ℤ, ◌+◌, ◌<◌, ◌≤◌, int_le, Bool, not, false, true, None, Some, Result, Ok, Err, OnOk, List, [], length, get_or, slice_set, nat_le, refl, ap, sym, subst, ◌∙◌, arith, if◌then◌else◌}
+use Rattle.std.proofs.lemmas.Bool.{lt-leb, le-leb}
 use Rattle.std.proofs.lemmas.List.{get_or_read, get_or-set_same}
-use Rattle.std.proofs.lemmas.List.Quantifiers.{position-Some}
+use Rattle.base_core.specs.declared.limits.TheConstants.{TEXT_LIMIT, DOCUMENT_LIMIT}
 use Rattle.base_core.specs.declared.memory.NoMem.{NoMem}
 use Rattle.base_core.specs.declared.places.Change.{Change}
 use Rattle.lsp_types.specs.declared.messages.Note.{Note}
 use Rattle.lsp_types.specs.declared.messages.Note.TheVariants as note
-use Rattle.lsp_session.specs.declared.machine.Written.{Written}
-use Rattle.lsp_session.specs.Rules.{Step, Makes}
-use Rattle.sched_core.specs.Session.{Document, Session, Checks, document_at}
-use Rattle.sched_core.specs.Documents.{place_of, is_ended, is_too_long, unchecked, opened, with_opened, changed, changed_at, with_changed, has_range, has_too_long, last_text, first_unended, closed, granted, granted_at, with_advanced, with_units, advanced, standing, goes_on}
-use Rattle.sched_core.specs.Plain.{noted_running}
+use Rattle.doc_check.specs.Check.{Views}
+use Rattle.doc_check.specs.Incremental.{Progress, progress, is_ended}
+use Rattle.sched_core.specs.declared.events.Written.{Written}
+use Rattle.sched_core.specs.declared.events.Event.{Event}
+use Rattle.sched_core.specs.Step.{Step, Makes}
+use Rattle.sched_core.specs.Session.{Document, Session, document_in, document_at, place_of, unchecked, idles, AreShort, update}
+use Rattle.sched_core.specs.Work.{spent_on, progress_since, granted, grant_at}
+use Rattle.sched_core.specs.Documents.{renewed, status_bodies, is_too_long, did_open, add, did_change, change_at, renew, has_range, has_too_long, last_text, did_close}
+use Rattle.sched_core.specs.Messages.{notify_running, notify_grant}
+use Rattle.sched_core.specs.Plain.{step, IdlesLeft}
+use Rattle.sched_core.proofs.Idles.{steps_end}
 
 same_step : (due step : Step Session) (r : Result Written NoMem) (after : Session) → due ≡ step → Makes step r after → Makes due r after
 same_step due step r after e made = subst (λ s. Makes s r after) (sym e) made
 
-opened_is : (checks : Checks) (session : Session) (uri : List ℕ) (version : ℤ) (text : List ℕ) → place_of uri session.documents ≡ None → length session.documents < 64 → length text ≤ 1048576 → opened checks session uri version text ≡ with_opened checks session (unchecked uri version text)
-opened_is checks session uri version text none few short =
-    let room : nat_le 64 (length session.documents) ≡ false = lt-leb 64 (length session.documents) few in
-    let fits : is_too_long text ≡ false = lt-leb 1048577 (length text) (omega (arith, short)) in
+open_is : (views : Views) (session : Session) (uri : List ℕ) (version : ℤ) (text : List ℕ) → place_of uri session.documents ≡ None → length session.documents < DOCUMENT_LIMIT → length text ≤ TEXT_LIMIT → did_open views uri version text session ≡ add views (unchecked uri version text) session
+open_is views session uri version text none few short =
+    let room : nat_le DOCUMENT_LIMIT (length session.documents) ≡ false = lt-leb DOCUMENT_LIMIT (length session.documents) few in
+    let fits : is_too_long text ≡ false = lt-leb (TEXT_LIMIT + 1) (length text) (omega (arith, short)) in
     rw (none, room, fits) refl
 
 -- a document is opened
-pub open_made : (checks : Checks) (session : Session) (uri : List ℕ) (version : ℤ) (text : List ℕ) (document : Document) (r : Result Written NoMem) (after : Session) → place_of uri session.documents ≡ None → length session.documents < 64 → length text ≤ 1048576 → document ≡ unchecked uri version text → Makes (with_opened checks session document) r after → Makes (opened checks session uri version text) r after
-open_made checks session uri version text document r after none few short is made =
-    same_step (opened checks session uri version text) (with_opened checks session document) r after
-    (opened_is checks session uri version text none few short ∙ ap (with_opened checks session) (sym is)) made
+pub open_made : (views : Views) (session : Session) (uri : List ℕ) (version : ℤ) (text : List ℕ) (document : Document) (r : Result Written NoMem) (after : Session) → place_of uri session.documents ≡ None → length session.documents < DOCUMENT_LIMIT → length text ≤ TEXT_LIMIT → document ≡ unchecked uri version text → Makes (add views document session) r after → Makes (did_open views uri version text session) r after
+open_made views session uri version text document r after none few short is made =
+    same_step (did_open views uri version text session) (add views document session) r after
+    (open_is views session uri version text none few short ∙ ap (λ d. add views d session) (sym is)) made
 
-changed_is : (checks : Checks) (session : Session) (version : ℤ) (changes : List Change) (place : ℕ) (old : Document) → int_le version old.version ≡ false → has_range changes ≡ false → has_too_long changes ≡ false → changed_at checks session version changes place old ≡ with_changed checks session place (unchecked old.uri version (last_text old.text changes))
-changed_is checks session version changes place old greater whole short = rw (greater, whole, short) refl
+change_is : (views : Views) (session : Session) (version : ℤ) (changes : List Change) (place : ℕ) → int_le version (document_at session place).version ≡ false → has_range changes ≡ false → has_too_long changes ≡ false → change_at views version changes place session ≡ renew views place version (last_text (document_at session place).check.text changes) session
+change_is views session version changes place greater whole short = rw (greater, whole, short) refl
 
 -- a document is changed
-pub change_made : (checks : Checks) (session : Session) (version : ℤ) (changes : List Change) (place : ℕ) (old document : Document) (r : Result Written NoMem) (after : Session) → int_le version old.version ≡ false → has_range changes ≡ false → has_too_long changes ≡ false → document ≡ unchecked old.uri version (last_text old.text changes) → Makes (with_changed checks session place document) r after → Makes (changed_at checks session version changes place old) r after
-change_made checks session version changes place old document r after greater whole short is made =
-    same_step (changed_at checks session version changes place old) (with_changed checks session place document) r after
-    (changed_is checks session version changes place old greater whole short ∙ ap (with_changed checks session place) (sym is)) made
+pub change_made : (views : Views) (session : Session) (version given : ℤ) (changes : List Change) (place : ℕ) (text : List ℕ) (r : Result Written NoMem) (after : Session) → int_le version (document_at session place).version ≡ false → has_range changes ≡ false → has_too_long changes ≡ false → text ≡ last_text (document_at session place).check.text changes → given ≡ version → Makes (renew views place given text session) r after → Makes (change_at views version changes place session) r after
+change_made views session version given changes place text r after greater whole short is same made =
+    same_step (change_at views version changes place session) (renew views place given text session) r after
+    (change_is views session version changes place greater whole short ∙ ap (λ t. renew views place version t session) (sym is) ∙ ap (λ v. renew views place v text session) (sym same)) made
 
 -- the document of a name is changed
-pub known_made : (checks : Checks) (session : Session) (uri : List ℕ) (version given : ℤ) (changes : List Change) (place : ℕ) (r : Result Written NoMem) (after : Session) → place_of uri session.documents ≡ Some place → given ≡ version → Makes (changed_at checks session given changes place (document_at session.documents place)) r after → Makes (changed checks session uri version changes) r after
-known_made checks session uri version given changes place r after found e made =
-    rw found (subst (λ v. Makes (changed_at checks session v changes place (document_at session.documents place)) r after) e made)
+pub known_made : (views : Views) (session : Session) (uri : List ℕ) (version given : ℤ) (changes : List Change) (place : ℕ) (r : Result Written NoMem) (after : Session) → place_of uri session.documents ≡ Some place → given ≡ version → Makes (change_at views given changes place session) r after → Makes (did_change views uri version changes session) r after
+known_made views session uri version given changes place r after found e made =
+    rw found (subst (λ v. Makes (change_at views v changes place session) r after) e made)
 
 -- a notification of an opening
-pub did_open_made : (checks : Checks) (paced : Bool) (session : Session) (told : Note) (uri : List ℕ) (version : ℤ) (text : List ℕ) (name : List ℕ) (number : ℤ) (bytes : List ℕ) (r : Result Written NoMem) (after : Session) → told ≡ note.DidOpen uri version text → name ≡ uri → number ≡ version → bytes ≡ text → Makes (opened checks session name number bytes) r after → Makes (noted_running checks paced session told) r after
-did_open_made checks paced session told uri version text name number bytes r after e f g h made =
-    same_step (noted_running checks paced session told) (opened checks session name number bytes) r after
-    (ap (noted_running checks paced session) e ∙ ap (λ u. opened checks session u version text) (sym f) ∙ ap (λ v. opened checks session name v text) (sym g) ∙ ap (λ t. opened checks session name number t) (sym h))
+pub did_open_made : (views : Views) (session : Session) (heard : Note) (uri : List ℕ) (version : ℤ) (text : List ℕ) (name : List ℕ) (number : ℤ) (bytes : List ℕ) (r : Result Written NoMem) (after : Session) → heard ≡ note.DidOpen uri version text → name ≡ uri → number ≡ version → bytes ≡ text → Makes (did_open views name number bytes session) r after → Makes (notify_running views heard session) r after
+did_open_made views session heard uri version text name number bytes r after e f g h made =
+    same_step (notify_running views heard session) (did_open views name number bytes session) r after
+    (ap (λ n. notify_running views n session) e ∙ ap (λ u. did_open views u version text session) (sym f) ∙ ap (λ v. did_open views name v text session) (sym g) ∙ ap (λ t. did_open views name number t session) (sym h))
     made
 
 -- of a change
-pub did_change_made : (checks : Checks) (paced : Bool) (session : Session) (told : Note) (uri : List ℕ) (version : ℤ) (changes : List Change) (name : List ℕ) (number : ℤ) (edits : List Change) (r : Result Written NoMem) (after : Session) → told ≡ note.DidChange uri version changes → name ≡ uri → number ≡ version → edits ≡ changes → Makes (changed checks session name number edits) r after → Makes (noted_running checks paced session told) r after
-did_change_made checks paced session told uri version changes name number edits r after e f g h made =
-    same_step (noted_running checks paced session told) (changed checks session name number edits) r after
-    (ap (noted_running checks paced session) e ∙ ap (λ u. changed checks session u version changes) (sym f) ∙ ap (λ v. changed checks session name v changes) (sym g) ∙ ap (λ t. changed checks session name number t) (sym h))
+pub did_change_made : (views : Views) (session : Session) (heard : Note) (uri : List ℕ) (version : ℤ) (changes : List Change) (name : List ℕ) (number : ℤ) (edits : List Change) (r : Result Written NoMem) (after : Session) → heard ≡ note.DidChange uri version changes → name ≡ uri → number ≡ version → edits ≡ changes → Makes (did_change views name number edits session) r after → Makes (notify_running views heard session) r after
+did_change_made views session heard uri version changes name number edits r after e f g h made =
+    same_step (notify_running views heard session) (did_change views name number edits session) r after
+    (ap (λ n. notify_running views n session) e ∙ ap (λ u. did_change views u version changes session) (sym f) ∙ ap (λ v. did_change views name v changes session) (sym g) ∙ ap (λ t. did_change views name number t session) (sym h))
     made
 
 -- of a closing
-pub did_close_made : (checks : Checks) (paced : Bool) (session : Session) (told : Note) (uri : List ℕ) (name : List ℕ) (r : Result Written NoMem) (after : Session) → told ≡ note.DidClose uri → name ≡ uri → Makes (closed session name) r after → Makes (noted_running checks paced session told) r after
-did_close_made checks paced session told uri name r after e f made =
-    same_step (noted_running checks paced session told) (closed session name) r after (ap (noted_running checks paced session) e ∙ ap (closed session) (sym f)) made
+pub did_close_made : (views : Views) (session : Session) (heard : Note) (uri : List ℕ) (name : List ℕ) (r : Result Written NoMem) (after : Session) → heard ≡ note.DidClose uri → name ≡ uri → Makes (did_close name session) r after → Makes (notify_running views heard session) r after
+did_close_made views session heard uri name r after e f made =
+    same_step (notify_running views heard session) (did_close name session) r after (ap (λ n. notify_running views n session) e ∙ ap (λ u. did_close u session) (sym f)) made
+
+pub grant_is : (views : Views) (session : Session) (heard : Note) (uri : List ℕ) (units : ℕ) (name : List ℕ) → heard ≡ note.Grant uri units → name ≡ uri → notify_running views heard session ≡ notify_grant views name units session
+grant_is views session heard uri units name e f =
+    ap (λ n. notify_running views n session) e ∙ ap (λ u. notify_grant views u units session) (sym f)
 
 -- of units
-pub granted_made : (checks : Checks) (paced : Bool) (session : Session) (told : Note) (uri : List ℕ) (units : ℕ) (name : List ℕ) (r : Result Written NoMem) (after : Session) → told ≡ note.Grant uri units → name ≡ uri → Makes (if paced then granted checks session name units else goes_on session []) r after → Makes (noted_running checks paced session told) r after
-granted_made checks paced session told uri units name r after e f made =
-    same_step (noted_running checks paced session told) (if paced then granted checks session name units else goes_on session []) r after
-    (ap (noted_running checks paced session) e ∙ ap (λ u. if paced then granted checks session u units else goes_on session []) (sym f)) made
+pub granted_made : (views : Views) (session : Session) (heard : Note) (uri : List ℕ) (units : ℕ) (name : List ℕ) (r : Result Written NoMem) (after : Session) → heard ≡ note.Grant uri units → name ≡ uri → Makes (notify_grant views name units session) r after → Makes (notify_running views heard session) r after
+granted_made views session heard uri units name r after e f made =
+    same_step (notify_running views heard session) (notify_grant views name units session) r after (grant_is views session heard uri units name e f) made
 
--- the first that is not ended
-pub unended_at : (documents : List Document) (place : ℕ) → first_unended documents ≡ Some place → is_ended (document_at documents place) ≡ false
-unended_at documents place found = untrue (is_ended (document_at documents place)) (position-Some (λ d. not (is_ended d)) documents place (document_at [] 0) found).1 where
-  untrue : (b : Bool) → not b ≡ true → b ≡ false
-  untrue true h = sym h
-  untrue false h = refl
-
--- the document at a place, as it is read
-pub seen_at : (items documents : List Document) (place : ℕ) (document : Document) → items ≡ documents → place < length documents → document ≡ get_or items place document → document ≡ document_at documents place
-seen_at items documents place document same within read =
-    get_or_read documents place document within (read ∙ ap (λ ds. get_or ds place document) same) (document_at [] 0)
-
--- and as it was put there
-put_at : (session new : Session) (place : ℕ) (document : Document) → place < length session.documents → new ≡ record session { documents = slice_set session.documents place document } → document_at new.documents place ≡ document
-put_at session new place document within put =
-    ap (λ s. document_at s.documents place) put ∙ get_or-set_same session.documents place document (document_at [] 0) within
-
--- a new version of a document
-pub replace_made : (checks : Checks) (session new : Session) (place : ℕ) (document : Document) (w : Written) (bodies : List (List ℕ)) → place < length session.documents → new ≡ record session { documents = slice_set session.documents place document } → w.bodies ≡ bodies → w.exit ≡ None → bodies ≡ standing checks (document_at new.documents place) → Makes (with_changed checks session place document) (Ok w) new
-replace_made checks session new place document w bodies within put wrote stays told =
-    (wrote ∙ told ∙ ap (standing checks) (put_at session new place document within put), stays, put)
-
-granted_is : (checks : Checks) (session : Session) (units place : ℕ) (old : Document) → is_ended old ≡ false → granted_at checks session units place old ≡ with_advanced checks session old.done place (with_units checks units old)
-granted_is checks session units place old left = rw left refl
+granted_is : (views : Views) (session : Session) (units place : ℕ) → is_ended (document_at session place).check ≡ false → grant_at views units place session ≡ granted views units place session
+granted_is views session units place left = rw left refl
 
 -- units for a document that is not ended
-pub grant_made : (checks : Checks) (session new : Session) (units place before : ℕ) (old : Document) (w : Written) (bodies : List (List ℕ)) → place < length session.documents → is_ended old ≡ false → before ≡ old.done → new ≡ record session { documents = slice_set session.documents place (with_units checks units old) } → w.bodies ≡ bodies → w.exit ≡ None → bodies ≡ advanced checks before (document_at new.documents place) → Makes (granted_at checks session units place old) (Ok w) new
-grant_made checks session new units place before old w bodies within left from put wrote stays told =
-    same_step (granted_at checks session units place old) (with_advanced checks session old.done place (with_units checks units old)) (Ok w) new (granted_is checks session units place old left)
-    (wrote ∙ told ∙ ap (λ n. advanced checks n (document_at new.documents place)) from ∙ ap (advanced checks old.done) (put_at session new place (with_units checks units old) within put), stays, put)
+pub grant_made : (views : Views) (session new : Session) (units place before : ℕ) (w : Written) (bodies : List (List ℕ)) → is_ended (document_at session place).check ≡ false → before ≡ (document_at session place).check.done → new ≡ update place (spent_on views units) session → w.bodies ≡ bodies → w.exit ≡ None → bodies ≡ progress_since views before (document_at new place) → Makes (grant_at views units place session) (Ok w) new
+grant_made views session new units place before w bodies left from put wrote stays told =
+    same_step (grant_at views units place session) (granted views units place session) (Ok w) new (granted_is views session units place left)
+    (wrote ∙ told ∙ ap (λ n. progress_since views n (document_at new place)) from ∙ ap (λ s. progress_since views (document_at session place).check.done (document_at s place)) put, stays, put)
+
+-- a document's new version
+pub renew_made : (views : Views) (session new : Session) (place : ℕ) (version : ℤ) (text : List ℕ) (w : Written) (bodies : List (List ℕ)) → new ≡ update place (renewed version text) session → w.bodies ≡ bodies → w.exit ≡ None → bodies ≡ status_bodies views (document_at new place) → Makes (renew views place version text session) (Ok w) new
+renew_made views session new place version text w bodies put wrote stays told =
+    (wrote ∙ told ∙ ap (λ s. status_bodies views (document_at s place)) put, stays, put)
+
+-- the document at a place, as it is read
+pub seen_at : (items documents : List Document) (place : ℕ) (document : Document) → items ≡ documents → place < length documents → document ≡ get_or items place document → document ≡ document_in documents place
+seen_at items documents place document same within read =
+    get_or_read documents place document within (read ∙ ap (λ ds. get_or ds place document) same) (document_in [] 0)
+
+-- how many idle steps are left behind a step that is made
+pub idles_made : (views : Views) (session : Session) (e : Event) (r : Result Written NoMem) (after : Session) → AreShort session.documents → Makes (step views session e) r after → OnOk r (IdlesLeft e session after)
+idles_made views session e (Ok w) after short made = subst (λ s. IdlesLeft e session s) (sym made.2) (steps_end views session e short)
+idles_made views session e (Err none) after short made = tt

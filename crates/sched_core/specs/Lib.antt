@@ -1,7 +1,7 @@
+pub mod Step
 pub mod Session
 pub mod Bodies
 pub mod Documents
+pub mod Work
+pub mod Messages
 pub mod Plain
-pub mod Calls
-pub mod Served
-pub mod Causes

@@ -1,48 +1,74 @@
--- What a plain session keeps, and what checking a text says.
-use Rattle.std.specs.Prelude.{ℕ, pos, ℤ, Option, List, [], length, slice_index_or, take}
-use Rattle.base_core.specs.declared.kind.Kind.TheVariants.{Plain}
-use Rattle.sentence_split.specs.declared.spans.Span.{Span}
-use Rattle.sentence_split.specs.Sentences.{sentences}
-use Rattle.prover_iface.specs.declared.diagnostics.RelDiag.{RelDiag}
-use Rattle.prover_iface.specs.declared.outline.OutlineItem.{OutlineItem}
-use Rattle.prover_iface.specs.Sentences.{Sentence, sentence_at}
-use Rattle.prover_iface.specs.Check.{state_after, checked}
+-- What a plain session keeps: of each document the text and a count alone.
+use Rattle.std.specs.Prelude.{◌≡◌, ℕ, ◌-◌, ◌≤◌, pos, ℤ, Bool, Option, List, [], length, position, not, slice_index_or, slice_set, sum_by, All}
+use Rattle.std.specs.Str.{bytes_eq}
+use Rattle.base_core.specs.declared.limits.TheConstants.{TEXT_LIMIT}
+use Rattle.prover_iface.specs.Meanings.{Meanings}
+use Rattle.doc_check.specs.Check.{count}
+use Rattle.doc_check.specs.Incremental.{Progress, progress, is_ended}
 use Rattle.sched_core.specs.declared.phase.Phase.{Phase}
+use Rattle.sched_core.specs.declared.phase.Phase.TheVariants.{Fresh}
 
 -- an open document: its name, the version and the text that were last accepted, and how many of the
 -- text's sentences are finished
 pub record Document : Type 0 where
   pub uri : List ℕ
   pub version : ℤ
-  pub text : List ℕ
-  pub done : ℕ
+  pub check : Progress
 
--- the phase, and the open documents in the order of their opening
+-- a document of which no sentence is finished
+abbrev pub unchecked : List ℕ → ℤ → List ℕ → Document
+unchecked uri version text = record { uri = uri; version = version; check = progress text 0 }
+
+-- whether it is paced, its phase, and the open documents in the order of their opening
 pub record Session : Type 0 where
+  pub paced : Bool
   pub phase : Phase
   pub documents : List Document
 
--- what checking a text from its beginning says: its diagnostics, and the cost of each sentence
-pub record Checks : Type 0 where
-  pub diags : List ℕ → List RelDiag
-  pub cost : List ℕ → ℕ → ℕ
-
--- how many sentences a text has
-abbrev pub count : List ℕ → ℕ
-count text = length (sentences 0 0 text)
-
--- the sentence of a number
-abbrev pub span_of : List ℕ → ℕ → Span
-span_of text number = slice_index_or (sentences 0 0 text) number (record { from = 0; to = 0; kind = Plain })
-
--- the same by a prover: its first state, its state behind a sentence, what it tells of one, the proof and
--- the outline of a state, and what a sentence costs
-abbrev pub checks_by : {M : Type 0} → M → (M → Sentence → M) → (M → Sentence → List RelDiag) → (M → Option ℕ) → (M → List OutlineItem) → (M → Sentence → ℕ) → Checks
-checks_by first after diagnosed opened outline_of cost = record {
-  diags = λ text. (checked first after diagnosed opened outline_of text).diags;
-  cost = λ text number. cost (state_after after first text (take number (sentences 0 0 text))) (sentence_at text (span_of text number));
-}
+-- where a session begins
+abbrev pub fresh : Bool → Session
+fresh paced = record { paced = paced; phase = Fresh; documents = [] }
 
 -- the document at a place in the order of opening
-abbrev pub document_at : List Document → ℕ → Document
-document_at documents place = slice_index_or documents place (record { uri = []; version = pos 0; text = []; done = 0 })
+abbrev pub document_in : List Document → ℕ → Document
+document_in documents place = slice_index_or documents place (unchecked [] (pos 0) [])
+
+abbrev pub document_at : Session → ℕ → Document
+document_at session place = document_in session.documents place
+
+-- the documents are these now
+abbrev pub set_documents : List Document → Session → Session
+set_documents documents session = record session { documents = documents }
+
+-- the document at a place is changed so
+abbrev pub update : ℕ → (Document → Document) → Session → Session
+update place change session = set_documents (slice_set session.documents place (change (document_at session place))) session
+
+-- the session is in another phase
+abbrev pub set_phase : Phase → Session → Session
+set_phase phase session = record session { phase = phase }
+
+-- the place of the document of a name: names are compared byte by byte
+abbrev pub place_of : List ℕ → List Document → Option ℕ
+place_of uri documents = position (λ document. bytes_eq document.uri uri) documents
+
+-- the place of the document that was opened first among those that are not ended
+abbrev pub first_unended : List Document → Option ℕ
+first_unended documents = position (λ document. not (is_ended document.check)) documents
+
+-- how many sentences are not finished
+abbrev pub unfinished : Document → ℕ
+unfinished document = count document.check.text - document.check.done
+
+-- how many steps without a message a session can still take
+abbrev pub idles : Session → ℕ
+idles session = sum_by unfinished session.documents
+
+-- each text is within the limit
+abbrev pub AreShort : List Document → Type 0
+AreShort documents = All (λ document. length document.check.text ≤ TEXT_LIMIT) documents
+
+-- what is kept beside a session: a prover's first state
+pub record Holds {M : Type 0} (means : Meanings M) (first : M) (documents : List Document) : Type 0 where
+  pub first_is : first ≡ means.first
+  pub short : AreShort documents

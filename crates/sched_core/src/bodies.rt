@@ -2,13 +2,16 @@
 ghost use Rattle.std.specs.Prelude.{◌≡◌, ◌≤◌, All, [], ◌∷◌, map, length, IfOk, OnOk};
 ghost use Rattle.serde_json.specs.Data.{string};
 ghost use Rattle.serde_json.specs.View.{view};
-ghost use Rattle.prover_iface.specs.Check.{IsPlaced};
+ghost use Rattle.doc_check.specs.Check.{IsPlaced};
 ghost use Rattle.lsp_types.specs.Bodies.{result_body};
-ghost use Rattle.sched_core.specs.Bodies.{position_data, range_data, document_data, progress_data, processing_data, progress_body, ended_body, diag_data, diags_data, diags_body, log_data, log_body, sync_data, capabilities_data, server_data, initialize_result};
+ghost use Rattle.utf16_doc.specs.Position.{position_at};
+ghost use Rattle.sched_core.specs.Bodies.{position_data, range_data, document_data, progress_data, processing_data};
+ghost use Rattle.sched_core.specs.Bodies.{progress_body, ended_body, diag_data, diags_data, diags_body, log_data, log_body};
+ghost use Rattle.sched_core.specs.Bodies.{sync_data, capabilities_data, server_data, initialize_result};
 
 use base_core::{Bytes, NoMem, Position};
+use doc_check::AbsDiag;
 use lsp_types::{Id, encode_note, encode_result};
-use prover_iface::RelDiag;
 use serde_json::{Map, Value, json, put};
 use std::alloc::Global;
 use utf16_doc::Doc;
@@ -23,7 +26,7 @@ fn position_value(alloc: Global, at: Position) -> Result<Value, NoMem>
 fn range_value(alloc: Global, doc: &Doc, from: usize, to: usize) -> Result<Value, NoMem>
     requires from { from ≤ length doc.now }
     requires to { to ≤ length doc.now }
-    ensures { IfOk result (λ v. view v ≡ range_data doc.now from to) }
+    ensures { IfOk result (λ v. view v ≡ range_data (position_at doc.now) from to) }
 {
     let start = position_value(alloc, doc.position_of(from))?;
     let end = position_value(alloc, doc.position_of(to))?;
@@ -59,7 +62,8 @@ fn processing_value(alloc: Global, range: Value) -> Result<Value, NoMem>
 /// The text from an offset on, as what is left.
 fn ranges_left(alloc: Global, doc: &Doc, from: usize) -> Result<Vec<Value>, NoMem>
     requires { from ≤ length doc.now }
-    ensures { IfOk result (λ ranges. map view ranges.items ≡ processing_data (range_data doc.now from (length doc.now)) ∷ []) }
+    ensures { let range = range_data (position_at doc.now) from (length doc.now) in
+        IfOk result (λ ranges. map view ranges.items ≡ processing_data range ∷ []) }
 {
     let range = range_value(alloc, doc, from, doc.text().len())?;
     let mut ranges = Vec::new(alloc);
@@ -76,7 +80,7 @@ pub(crate) fn progress_body(
     from: usize,
 ) -> Result<Bytes, NoMem>
     requires { from ≤ length doc.now }
-    ensures { IfOk result (λ b. b ≡ progress_body uri.now version doc.now from) }
+    ensures { IfOk result (λ b. b ≡ progress_body (position_at doc.now) uri.now version from (length doc.now)) }
 {
     let ranges = ranges_left(alloc, doc, from)?;
     let params = progress_value(alloc, uri, version, ranges)?;
@@ -97,9 +101,9 @@ fn text_value(alloc: Global, text: &str) -> Result<Value, NoMem>
     Ok(Value::try_from_str(alloc, text)?)
 }
 
-fn diag_value(alloc: Global, doc: &Doc, diag: &RelDiag) -> Result<Value, NoMem>
+fn diag_value(alloc: Global, doc: &Doc, diag: &AbsDiag) -> Result<Value, NoMem>
     requires { IsPlaced (length doc.now) diag.now }
-    ensures { IfOk result (λ v. view v ≡ diag_data doc.now diag.now) }
+    ensures { IfOk result (λ v. view v ≡ diag_data (position_at doc.now) diag.now) }
 {
     let range = range_value(alloc, doc, diag.from as usize, diag.to as usize)?;
     let mut members = Map::new(alloc);
@@ -116,9 +120,9 @@ fn diag_value(alloc: Global, doc: &Doc, diag: &RelDiag) -> Result<Value, NoMem>
     Ok(Value::Object(members))
 }
 
-fn diag_values(alloc: Global, doc: &Doc, diags: &[RelDiag]) -> Result<Vec<Value>, NoMem>
+fn diag_values(alloc: Global, doc: &Doc, diags: &[AbsDiag]) -> Result<Vec<Value>, NoMem>
     requires { All (IsPlaced (length doc.now)) diags.now }
-    ensures { IfOk result (λ vs. map view vs.items ≡ map (diag_data doc.now) diags.now) }
+    ensures { IfOk result (λ vs. map view vs.items ≡ map (diag_data (position_at doc.now)) diags.now) }
 {
     let mut values = Vec::new(alloc);
     for diag in diags {
@@ -132,10 +136,10 @@ fn diags_value(
     uri: &str,
     version: i32,
     doc: &Doc,
-    diags: &[RelDiag],
+    diags: &[AbsDiag],
 ) -> Result<Value, NoMem>
     requires { All (IsPlaced (length doc.now)) diags.now }
-    ensures { IfOk result (λ v. view v ≡ diags_data uri.now version doc.now diags.now) }
+    ensures { IfOk result (λ v. view v ≡ diags_data (position_at doc.now) uri.now version diags.now) }
 {
     let values = Value::Array(diag_values(alloc, doc, diags)?);
     Ok(json!(in alloc; {"diagnostics": values, "uri": uri, "version": version})?)
@@ -147,10 +151,10 @@ pub(crate) fn diags_body(
     uri: &str,
     version: i32,
     doc: &Doc,
-    diags: &[RelDiag],
+    diags: &[AbsDiag],
 ) -> Result<Bytes, NoMem>
     requires { All (IsPlaced (length doc.now)) diags.now }
-    ensures { IfOk result (λ b. b ≡ diags_body uri.now version doc.now diags.now) }
+    ensures { IfOk result (λ b. b ≡ diags_body (position_at doc.now) uri.now version diags.now) }
 {
     let params = diags_value(alloc, uri, version, doc, diags)?;
     encode_note(alloc, "textDocument/publishDiagnostics", params)

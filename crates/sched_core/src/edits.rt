@@ -2,7 +2,7 @@
 ghost use Rattle.std.specs.Prelude.{◌≡◌};
 ghost use Rattle.sched_core.specs.Documents.{has_range, has_too_long, last_text, is_too_long};
 
-use base_core::{Change, TEXT_LIMIT};
+use base_core::{Change, TEXT_LIMIT, Text};
 
 /// Whether some change is of a part of the text.
 pub(crate) fn has_range(changes: &[Change]) -> bool
@@ -29,11 +29,11 @@ pub(crate) fn has_too_long(changes: &[Change]) -> bool
 }
 
 /// The text behind the changes.
-pub(crate) fn last_text<'a>(text: &'a str, changes: &'a [Change]) -> &'a str
+pub(crate) fn last_text<'a>(text: &'a Text, changes: &'a [Change]) -> &'a Text
     ensures { result.now ≡ last_text text.now changes.now }
 {
     match changes {
         [] => text,
-        [.., last] => last.text.as_str(),
+        [.., last] => &last.text,
     }
 }

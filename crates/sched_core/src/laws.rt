@@ -1,34 +1,7 @@
-//! Laws of the plain session that the other clauses cite, for the proofs above this crate. Each
-//! function does nothing.
+//! Laws of the plain session, for the crates above. Each function does nothing.
+ghost use Rattle.sched_core.specs.Plain.{StepsEnd};
 
-ghost use Rattle.sched_core.specs.Causes.{EndingsHaveCauses, StatusesHaveCauses, CleanExits, NoExits, WholeSessionsEndClean, TakenSessionsEndClean, GivenSessionsEndClean, ServedSessionsHaveCauses};
-
-/// Each ending of a session comes exactly where the polls of its call brought its cause.
-pub fn law_of_endings()
-    ensures { EndingsHaveCauses }
-{}
-
-/// So does each exit status.
-pub fn law_of_statuses()
-    ensures { StatusesHaveCauses }
-{}
-
-/// An exit is clean exactly where `initialize`, `shutdown` and `exit` came in this order, with no
-/// `exit` before.
-pub fn law_of_exits()
-    ensures clean { CleanExits }
-    ensures none { NoExits }
-{}
-
-/// A session that came whole ends with a clean exit. So does one that a link gives whole, as long as
-/// the link does not fail.
-pub fn law_of_completeness()
-    ensures ending { WholeSessionsEndClean }
-    ensures taken { TakenSessionsEndClean }
-    ensures given { GivenSessionsEndClean }
-{}
-
-/// All this of a session over a link and a sink, by its status and the polls of its call.
-pub fn law_of_serving()
-    ensures { ServedSessionsHaveCauses }
+/// A message adds no more steps without a message than a text has bytes, and each such step takes one away.
+pub fn law_of_idle_steps()
+    ensures { StepsEnd }
 {}

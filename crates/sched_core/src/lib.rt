@@ -3,19 +3,20 @@
 #![tactic(auto)]
 
 mod bodies;
+mod documents;
 mod edits;
+mod events;
 mod laws;
-mod machine;
+mod lookup;
+mod messages;
 mod open_document;
 mod phase;
-mod places;
 mod replies;
 mod sched;
-mod serving;
+mod steps;
+mod work;
 
-pub use laws::{
-    law_of_completeness, law_of_endings, law_of_exits, law_of_serving, law_of_statuses,
-};
+pub use events::{BytesList, Event, Exit, Written};
+pub use laws::law_of_idle_steps;
 pub use phase::Phase;
 pub use sched::Sched;
-pub use serving::serve;

@@ -1,47 +1,55 @@
 //! An open document, with what is kept of its finished sentences.
-ghost use Rattle.std.specs.Prelude.{◌≡◌, ◌<◌, [], true, false, IfOk, OnOk, if◌then◌else◌};
+ghost use Rattle.std.specs.Prelude.{◌≡◌, ◌≤◌, true, false, length, IfOk, OnOk};
 ghost use Rattle.std.specs.Str.{bytes_eq};
-ghost use Rattle.sched_core.specs.Session.{checks_by, count};
-ghost use Rattle.sched_core.specs.Bodies.{ended_body as ended_bytes, diags_body as diags_bytes};
-ghost use Rattle.sched_core.specs.Documents.{is_ended, progress, standing, advanced, end_pair, with_units, with_next};
-ghost use Rattle.sched_core.specs.Calls.{Advances};
+ghost use Rattle.base_core.specs.declared.limits.TheConstants.{TEXT_LIMIT};
+ghost use Rattle.prover_iface.specs.Exec.{Works, Worked};
+ghost use Rattle.doc_check.specs.Check.{views};
+ghost use Rattle.doc_check.specs.Incremental.{is_ended, next_cost, cost_left, Advances};
+ghost use Rattle.sched_core.specs.Bodies.{ended_body as ended_bytes};
+ghost use Rattle.sched_core.specs.Documents.{progress_from, diags_of, no_diags, status_bodies, end_pair};
+ghost use Rattle.sched_core.specs.Work.{progress_since, pair_at_end, spend_on, spent_on, with_next_done};
 
+use crate::BytesList;
 use crate::bodies::{diags_body, ended_body, progress_body};
 use crate::replies::one_body;
 use base_core::{Bytes, NoMem, Steps, Text};
 use doc_check::{Advance, DocCheck};
-use lsp_session::BytesList;
 use prover_iface::Prover;
 use std::alloc::Global;
 use std::marker::Model;
 use std::sync::ledger::Ledger;
-
-/// More units than any sentence costs.
-const ALL_UNITS: u32 = 1_000_001;
+use utf16_doc::Doc;
 
 /// A document that the client opened.
 #[derive(Drop)]
 pub(crate) struct OpenDocument<P: Prover> {
     uri: Text,
     version: i32,
+    /// The text with its positions.
+    doc: Doc,
     check: DocCheck<P>,
 }
 
 impl<P: Prover> Model for OpenDocument<P> {
+    ghost use Rattle.std.specs.Prelude.{◌≡◌};
     ghost use Rattle.sched_core.specs.Session.{Document};
 
     ghost Value = { Document };
 
-    ghost view = { λ d. record { uri = d.uri; version = d.version; text = d.check.text; done = d.check.done } };
+    ghost view = { λ d. record { uri = d.uri; version = d.version; check = d.check } };
+
+    ghost invariant = { λ d. d.doc ≡ d.check.text };
 }
 
 impl<P: Prover> OpenDocument<P> {
-    pub(crate) fn new(uri: Text, version: i32, check: DocCheck<P>) -> OpenDocument<P>
-        ensures { result ≡ record { uri = uri; version = version; text = check.text; done = check.done } }
+    pub(crate) fn new(uri: Text, version: i32, doc: Doc, check: DocCheck<P>) -> OpenDocument<P>
+        requires { doc ≡ check.text }
+        ensures { result ≡ record { uri = uri; version = version; check = check } }
     {
         OpenDocument {
             uri,
             version,
+            doc,
             check,
         }
     }
@@ -61,40 +69,42 @@ impl<P: Prover> OpenDocument<P> {
 
     /// Whether all sentences are finished.
     pub(crate) fn is_ended(&self) -> bool
-        ensures { result ≡ is_ended self.now }
+        ensures { result ≡ is_ended self.now.check }
     {
         self.check.is_ended()
     }
 
-    pub(crate) fn text(&self) -> &str
-        ensures { result.now ≡ self.now.text }
+    pub(crate) fn text(&self) -> &Text
+        ensures text { result.now ≡ self.now.check.text }
+        ensures short { length self.now.check.text ≤ TEXT_LIMIT }
     {
-        self.check.doc().text()
+        self.check.text()
     }
 
     /// How many sentences are finished.
     pub(crate) fn done(&self) -> usize
-        ensures { result ≡ self.now.done }
+        ensures { result ≡ self.now.check.done }
     {
         self.check.done()
     }
 
     /// A new version, of which nothing is finished.
-    pub(crate) fn replace(&mut self, version: i32, check: DocCheck<P>)
-        ensures { self.new ≡ record { uri = self.old.uri; version = version; text = check.text; done = check.done } }
+    pub(crate) fn replace(&mut self, version: i32, doc: Doc, check: DocCheck<P>)
+        requires { doc ≡ check.text }
+        ensures { self.new ≡ record { uri = self.old.uri; version = version; check = check } }
     {
         self.version = version;
+        self.doc = doc;
         self.check = check;
     }
 
     /// Progress from the first sentence that isn't finished on.
     fn progress(&self, alloc: Global) -> Result<Bytes, NoMem>
-        requires { is_ended self.now ≡ false }
-        ensures { IfOk result (λ b. b ≡ progress self.now) }
+        requires { is_ended self.now.check ≡ false }
+        ensures { IfOk result (λ b. b ≡ progress_from self.now) }
     {
-        let doc = self.check.doc();
         let from = self.check.next_from();
-        progress_body(alloc, self.uri.as_str(), self.version, doc, from)
+        progress_body(alloc, self.uri.as_str(), self.version, &self.doc, from)
     }
 
     /// Progress of which nothing is left.
@@ -106,37 +116,38 @@ impl<P: Prover> OpenDocument<P> {
 
     /// The diagnostics of the text.
     fn diags(&self, alloc: Global, prover: &P) -> Result<Bytes, NoMem>
-        requires { is_ended self.now ≡ true }
-        ensures { IfOk result (λ b. b ≡ diags_bytes self.now.uri self.now.version self.now.text ((checks_by P.first P.after P.diagnosed P.opened P.outline_of P.cost).diags self.now.text)) }
+        requires { is_ended self.now.check ≡ true }
+        ensures { IfOk result (λ b. b ≡ diags_of (views P.means) self.now) }
     {
         let diags = self.check.diags(alloc, prover)?;
-        let doc = self.check.doc();
         diags_body(
             alloc,
             self.uri.as_str(),
             self.version,
-            doc,
+            &self.doc,
             diags.as_slice(),
         )
     }
 
     /// Diagnostics that take all earlier ones back.
     pub(crate) fn no_diags(&self, alloc: Global) -> Result<Bytes, NoMem>
-        ensures { IfOk result (λ b. b ≡ diags_bytes self.now.uri self.now.version self.now.text []) }
+        ensures { IfOk result (λ b. b ≡ no_diags self.now) }
     {
-        let doc = self.check.doc();
-        diags_body(alloc, self.uri.as_str(), self.version, doc, &[])
+        diags_body(alloc, self.uri.as_str(), self.version, &self.doc, &[])
     }
 
     /// Finishes the next sentence, if there is one and it costs at most these units.
-    pub(crate) fn advance<C: Ledger>(
+    fn advance<C: Ledger>(
         &mut self,
         alloc: Global,
         prover: &P,
         units: u32,
         steps: &mut Steps<C>,
     ) -> Result<Advance, NoMem>
-        ensures { Advances (checks_by P.first P.after P.diagnosed P.opened P.outline_of P.cost) units self.old result self.new }
+        ensures advances { Advances (next_cost P.means self.old.check) units self.old.check result self.new.check }
+        ensures same { self.new ≡ record self.old { check = self.new.check } }
+        ensures text { self.new.check.text ≡ self.old.check.text }
+        ensures work { Works (cost_left P.means self.old.check) units steps.old steps.new result }
     {
         self.check.advance(alloc, prover, units, steps)
     }
@@ -148,14 +159,12 @@ impl<P: Prover> OpenDocument<P> {
         prover: &P,
         steps: &mut Steps<C>,
     ) -> Result<(), NoMem>
-        requires { is_ended self.old ≡ false }
-        ensures next { OnOk result (self.new ≡ with_next self.old) }
-        ensures within { OnOk result (self.old.done < count self.old.text) }
+        requires { is_ended self.old.check ≡ false }
+        ensures next { OnOk result (self.new ≡ with_next_done self.old) }
+        ensures text { self.new.check.text ≡ self.old.check.text }
+        ensures work { Worked (next_cost P.means self.old.check) steps.old steps.new result }
     {
-        match self.advance(alloc, prover, ALL_UNITS, steps)? {
-            Advance::Finished { spent: _ } => Ok(()),
-            Advance::Ended | Advance::Interrupted => unreachable!(),
-        }
+        self.check.run_next(alloc, prover, steps)
     }
 
     /// Finishes sentences as long as these units suffice.
@@ -166,21 +175,24 @@ impl<P: Prover> OpenDocument<P> {
         units: u32,
         steps: &mut Steps<C>,
     ) -> Result<(), NoMem>
-        ensures { OnOk result (self.new ≡ with_units (checks_by P.first P.after P.diagnosed P.opened P.outline_of P.cost) units self.old) }
+        ensures spent { OnOk result (self.new ≡ spent_on (views P.means) units self.old) }
+        ensures text { self.new.check.text ≡ self.old.check.text }
+        ensures work { Worked (spend_on (views P.means) units self.old).work steps.old steps.new result }
     {
         let mut left = units;
         loop {
             match self.advance(alloc, prover, left, steps)? {
                 Advance::Finished { spent } => left -= spent,
-                Advance::Ended | Advance::Interrupted => return Ok(()),
+                Advance::Ended => return Ok(()),
+                Advance::Interrupted => return Ok(()),
             }
         }
     }
 
     /// The end pair: nothing is left to be checked, and the diagnostics.
-    pub(crate) fn end_pair(&self, alloc: Global, prover: &P) -> Result<BytesList, NoMem>
-        requires { is_ended self.now ≡ true }
-        ensures { IfOk result (λ bodies. bodies ≡ end_pair (checks_by P.first P.after P.diagnosed P.opened P.outline_of P.cost) self.now) }
+    fn end_pair(&self, alloc: Global, prover: &P) -> Result<BytesList, NoMem>
+        requires { is_ended self.now.check ≡ true }
+        ensures { IfOk result (λ bodies. bodies ≡ end_pair (views P.means) self.now) }
     {
         let mut bodies = BytesList::new(alloc);
         bodies.push(self.ended(alloc)?)?;
@@ -189,8 +201,8 @@ impl<P: Prover> OpenDocument<P> {
     }
 
     /// How far it is: the end pair, or what is left.
-    pub(crate) fn standing(&self, alloc: Global, prover: &P) -> Result<BytesList, NoMem>
-        ensures { IfOk result (λ bodies. bodies ≡ standing (checks_by P.first P.after P.diagnosed P.opened P.outline_of P.cost) self.now) }
+    pub(crate) fn status(&self, alloc: Global, prover: &P) -> Result<BytesList, NoMem>
+        ensures { IfOk result (λ bodies. bodies ≡ status_bodies (views P.means) self.now) }
     {
         if self.is_ended() {
             return self.end_pair(alloc, prover);
@@ -199,13 +211,13 @@ impl<P: Prover> OpenDocument<P> {
     }
 
     /// How far it came, where so many sentences were finished before.
-    pub(crate) fn advanced(
+    pub(crate) fn progress_since(
         &self,
         alloc: Global,
         prover: &P,
         before: usize,
     ) -> Result<BytesList, NoMem>
-        ensures { IfOk result (λ bodies. bodies ≡ advanced (checks_by P.first P.after P.diagnosed P.opened P.outline_of P.cost) before self.now) }
+        ensures { IfOk result (λ bodies. bodies ≡ progress_since (views P.means) before self.now) }
     {
         if self.is_ended() {
             return self.end_pair(alloc, prover);
@@ -217,8 +229,8 @@ impl<P: Prover> OpenDocument<P> {
     }
 
     /// The end pair where it is ended, and nothing else.
-    pub(crate) fn end_pair_if_ended(&self, alloc: Global, prover: &P) -> Result<BytesList, NoMem>
-        ensures { IfOk result (λ bodies. bodies ≡ (if is_ended self.now then end_pair (checks_by P.first P.after P.diagnosed P.opened P.outline_of P.cost) self.now else [])) }
+    pub(crate) fn pair_at_end(&self, alloc: Global, prover: &P) -> Result<BytesList, NoMem>
+        ensures { IfOk result (λ bodies. bodies ≡ pair_at_end (views P.means) self.now) }
     {
         if self.is_ended() {
             return self.end_pair(alloc, prover);

@@ -4,8 +4,8 @@ ghost use Rattle.lsp_types.specs.Bodies.{error_body};
 ghost use Rattle.sched_core.specs.Bodies.{log_body as log_bytes};
 
 use crate::bodies::log_body;
+use crate::{BytesList, Exit, Written};
 use base_core::{Bytes, NoMem};
-use lsp_session::{BytesList, Exit, Written};
 use lsp_types::{ErrorCode, Id, encode_error};
 use std::alloc::Global;
 

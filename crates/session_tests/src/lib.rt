@@ -1,7 +1,14 @@
-//! Tests of the session's crates, through public calls alone: frames and messages.
+//! Tests of the session's crates, through public calls alone: frames, messages, provers, documents, and
+//! whole sessions over a link and a sink in memory.
 #![tactic(auto)]
 
+#[cfg(test)]
+mod documents;
 #[cfg(test)]
 mod frames;
 #[cfg(test)]
 mod messages;
+#[cfg(test)]
+mod provers;
+#[cfg(test)]
+mod sessions;

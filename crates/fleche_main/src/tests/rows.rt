@@ -1,18 +1,22 @@
+//! Files are checked, and sessions served, by the words of a command line.
 use crate::counted;
 use base_core::{
-    Bytes, FileItem, FileList, ItemList, MemFiles, MemSink, NoMem, NumberList, ScriptLink, Text,
+    Bytes, FileItem, FileList, Item, ItemList, MemFiles, MemSink, NoMem, NumberList, ScriptLink,
+    Text,
 };
 use std::alloc::Global;
 use std::marker::Brand;
 use std::sync::ledger::Blank;
 use std::test::Fail;
 
-/// Runs words over one file `a.v` and a sink, and gives the status and what was written.
-fn outcome_over(
+/// Runs words over one file `a.v`, a link that gives these bytes and a sink of so much room, and gives the
+/// status and what was written.
+fn outcome(
     alloc: Global,
     words: &[&str],
     content: Option<&[u8]>,
-    mut out: MemSink,
+    came: &str,
+    room: usize,
 ) -> Result<(u8, Vec<u8>), NoMem> {
     let mut all = Vec::new(alloc);
     for word in words {
@@ -27,8 +31,11 @@ fn outcome_over(
         name: Text::copy(alloc, "a.v")?,
         content,
     })?;
+    let mut items = ItemList::new(alloc);
+    items.push(Item::Piece(Bytes::copy(alloc, came.as_bytes())?))?;
     let mut files = MemFiles::new(listed);
-    let mut link = ScriptLink::new(alloc, ItemList::new(alloc), 0)?;
+    let mut link = ScriptLink::new(alloc, items, 10)?;
+    let mut out = MemSink::new(alloc, room, NumberList::new(alloc))?;
     let status = counted::<Brand, _, _, _>(
         alloc,
         all.as_slice(),
@@ -38,24 +45,6 @@ fn outcome_over(
         Blank::new(1),
     );
     Ok((status, out.written().to_vec(alloc)?))
-}
-
-fn outcome(
-    alloc: Global,
-    words: &[&str],
-    content: Option<&[u8]>,
-    room: usize,
-) -> Result<(u8, Vec<u8>), NoMem> {
-    let out = MemSink::new(alloc, room, NumberList::new(alloc))?;
-    outcome_over(alloc, words, content, out)
-}
-
-/// What is written of one axiom to a sink that fails at one call.
-fn outcome_of_fault(alloc: Global, call: u32) -> Result<(u8, Vec<u8>), NoMem> {
-    let mut fails = NumberList::new(alloc);
-    fails.push(call)?;
-    let out = MemSink::new(alloc, 1000, fails)?;
-    outcome_over(alloc, &["check", "a.v"], Some(b"Axiom A : Prop."), out)
 }
 
 #[test]
@@ -94,27 +83,37 @@ fn rows_are_written(rt: HostRuntime) -> Result<(), Fail> {
         ),
     ];
     for (text, status, written) in rows {
-        let got = outcome(rt.alloc(), &["check", "a.v"], Some(text.as_bytes()), 1000)?;
+        let got = outcome(
+            rt.alloc(),
+            &["check", "a.v"],
+            Some(text.as_bytes()),
+            "",
+            1000,
+        )?;
         assert_eq!(rt; got.0, status, "at {text:?}");
         assert_eq!(rt; got.1.as_slice(), written.as_bytes(), "at {text:?}");
     }
     Ok(())
 }
 
+const EXIT: &str = "Content-Length: 33\r\n\r\n{\"jsonrpc\":\"2.0\",\"method\":\"exit\"}";
+
 #[test]
-fn what_gives_no_report_writes_nothing(rt: HostRuntime) -> Result<(), Fail> {
+fn these_write_nothing(rt: HostRuntime) -> Result<(), Fail> {
     let text: &[u8] = b"Axiom A : Prop.";
-    let rows: [(&[&str], Option<&[u8]>, u8); 7] = [
-        (&["check", "a.v"], None, 9),
-        (&["check", "b.v"], Some(text), 9),
-        (&["check", "a.v"], Some(&[255]), 11),
-        (&["check"], Some(text), 2),
-        (&["check", "-a.v"], Some(text), 2),
-        (&["check", "a.v", "a.v"], Some(text), 2),
-        (&["serve", "a.v"], Some(text), 2),
+    let rows: [(&[&str], Option<&[u8]>, &str, u8); 9] = [
+        (&["check", "a.v"], None, "", 9),
+        (&["check", "b.v"], Some(text), "", 9),
+        (&["check", "a.v"], Some(&[255]), "", 11),
+        (&["check"], Some(text), "", 2),
+        (&["check", "-a.v"], Some(text), "", 2),
+        (&["check", "a.v", "a.v"], Some(text), "", 2),
+        (&["serve", "a.v"], Some(text), "", 2),
+        (&["serve"], Some(text), EXIT, 1),
+        (&["serve", "--paced"], Some(text), "", 6),
     ];
-    for (words, content, status) in rows {
-        let got = outcome(rt.alloc(), words, content, 1000)?;
+    for (words, content, came, status) in rows {
+        let got = outcome(rt.alloc(), words, content, came, 1000)?;
         assert_eq!(rt; got.0, status);
         assert_eq!(rt; got.1.len(), 0);
     }
@@ -125,22 +124,10 @@ fn what_gives_no_report_writes_nothing(rt: HostRuntime) -> Result<(), Fail> {
 fn a_full_sink_has_a_first_part(rt: HostRuntime) -> Result<(), Fail> {
     let report = "a.v: axiom A : Prop\na.v: end 0 errors 0 admissions\n".as_bytes();
     for room in 0..report.len() {
-        let got = outcome(
-            rt.alloc(),
-            &["check", "a.v"],
-            Some(b"Axiom A : Prop."),
-            room,
-        )?;
+        let text: &[u8] = b"Axiom A : Prop.";
+        let got = outcome(rt.alloc(), &["check", "a.v"], Some(text), "", room)?;
         assert_eq!(rt; got.0, 5, "at {room}");
         assert_eq!(rt; got.1.as_slice(), &report[..room], "at {room}");
     }
-    Ok(())
-}
-
-#[test]
-fn a_sink_that_fails_has_nothing(rt: HostRuntime) -> Result<(), Fail> {
-    let got = outcome_of_fault(rt.alloc(), 1)?;
-    assert_eq!(rt; got.0, 5);
-    assert_eq!(rt; got.1.len(), 0);
     Ok(())
 }

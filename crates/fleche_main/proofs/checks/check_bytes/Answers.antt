@@ -1,14 +1,14 @@
 use Rattle.std.proofs.Common.{◌∙◌}
-use Rattle.prover_iface.specs.Check.{checked}
+use Rattle.doc_check.specs.Check.{checked}
 use Rattle.fleche_main.proofs.Texts.{not_text, is_text}
 use Rattle.fleche_main.proofs.checks.check_bytes.Goals as goal
 
 pub returns-in_default-clause-told : goal.returns-in_default-clause-told
 returns-in_default-clause-told g c =
     let p = g.P.Prover in
-    not_text (λ text. checked p.first p.after p.diagnosed p.opened p.outline_of text) c.args.name.now c.args.bytes.now _ c.in_default.ensures.cases.0
+    not_text (checked p.means) c.args.name.now c.args.bytes.now _ c.in_default.ensures.cases.0
 
 pub returns-in-Ok-new-clause-told : goal.returns-in-Ok-new-clause-told
 returns-in-Ok-new-clause-told g c =
     let p = g.P.Prover in
-    is_text (λ text. checked p.first p.after p.diagnosed p.opened p.outline_of text) c.args.name.now c.args.bytes.now _ _ _ _ (c.in-Ok-new.ensures.text ∙ c.in-Ok.ensures.cases.0) c.in-Ok.ensures.cases.1 c.report_text.ensures.told
+    is_text (checked p.means) c.args.name.now c.args.bytes.now _ _ _ _ (c.in-Ok-new.ensures.text ∙ c.in-Ok.ensures.cases.0) c.in-Ok.ensures.cases.1 c.report_text.ensures.told

@@ -1,17 +1,13 @@
-use Rattle.std.proofs.Common.{Ok, Err}
-use Rattle.fleche_main.specs.declared.endings.Ending.TheVariants.{Unclean, NotRead}
-use Rattle.fleche_main.specs.declared.endings.Halt.TheVariants.{NoMem, SinkFailed}
+use Rattle.std.proofs.Common.{Ok, Err, subst, sym, ◌∙◌, ap}
+use Rattle.base_core.specs.Status.{number_of}
+use Rattle.fleche_main.specs.Status.{result_status, IsStatus}
 use Rattle.fleche_main.proofs.Statuses.{result_status-known}
 use Rattle.fleche_main.proofs.endings.number.Goals as goal
 
-pub returns-in-Ok-Unclean-clause-known : goal.returns-in-Ok-Unclean-clause-known
-returns-in-Ok-Unclean-clause-known c = result_status-known (Ok Unclean)
+pub returns-in-Ok-clause-known : goal.returns-in-Ok-clause-known
+returns-in-Ok-clause-known c =
+    subst IsStatus (sym (c.number.ensures ∙ ap number_of c.status.ensures)) (result_status-known (Ok c.in-Ok.ending))
 
-pub returns-in-Ok-NotRead-clause-known : goal.returns-in-Ok-NotRead-clause-known
-returns-in-Ok-NotRead-clause-known c = result_status-known (Ok NotRead)
-
-pub returns-in-Err-NoMem-clause-known : goal.returns-in-Err-NoMem-clause-known
-returns-in-Err-NoMem-clause-known c = result_status-known (Err NoMem)
-
-pub returns-in-Err-SinkFailed-clause-known : goal.returns-in-Err-SinkFailed-clause-known
-returns-in-Err-SinkFailed-clause-known c = result_status-known (Err SinkFailed)
+pub returns-in-Err-clause-known : goal.returns-in-Err-clause-known
+returns-in-Err-clause-known c =
+    subst IsStatus (sym (c.number-in-Err.ensures ∙ ap number_of c.status-in-Err.ensures)) (result_status-known (Err c.in-Err.halt))

@@ -1,20 +1,13 @@
-use Rattle.std.proofs.Common.{Ok, Err}
-use Rattle.lsp_session.specs.declared.endings.Ending.TheVariants.{LinkFailed, LinkEnded, FrameFault}
-use Rattle.lsp_session.specs.declared.endings.Halt.TheVariants.{NoMem, SinkFailed}
+use Rattle.std.proofs.Common.{Ok, Err, subst, sym, ◌∙◌, ap}
+use Rattle.base_core.specs.Status.{number_of}
+use Rattle.lsp_session.specs.Status.{result_status, IsStatus}
 use Rattle.lsp_session.proofs.Statuses.{result_status-known}
 use Rattle.lsp_session.proofs.endings.number.Goals as goal
 
-pub returns-in-Ok-LinkFailed-clause-known : goal.returns-in-Ok-LinkFailed-clause-known
-returns-in-Ok-LinkFailed-clause-known c = result_status-known (Ok LinkFailed)
+pub returns-in-Ok-clause-known : goal.returns-in-Ok-clause-known
+returns-in-Ok-clause-known c =
+    subst IsStatus (sym (c.number.ensures ∙ ap number_of c.status.ensures)) (result_status-known (Ok c.in-Ok.ending))
 
-pub returns-in-Ok-LinkEnded-clause-known : goal.returns-in-Ok-LinkEnded-clause-known
-returns-in-Ok-LinkEnded-clause-known c = result_status-known (Ok LinkEnded)
-
-pub returns-in-Ok-FrameFault-clause-known : goal.returns-in-Ok-FrameFault-clause-known
-returns-in-Ok-FrameFault-clause-known c = result_status-known (Ok FrameFault)
-
-pub returns-in-Err-NoMem-clause-known : goal.returns-in-Err-NoMem-clause-known
-returns-in-Err-NoMem-clause-known c = result_status-known (Err NoMem)
-
-pub returns-in-Err-SinkFailed-clause-known : goal.returns-in-Err-SinkFailed-clause-known
-returns-in-Err-SinkFailed-clause-known c = result_status-known (Err SinkFailed)
+pub returns-in-Err-clause-known : goal.returns-in-Err-clause-known
+returns-in-Err-clause-known c =
+    subst IsStatus (sym (c.number-in-Err.ensures ∙ ap number_of c.status-in-Err.ensures)) (result_status-known (Err c.in-Err.halt))

@@ -1,6 +1,6 @@
 use Rattle.std.proofs.Common.{subst, ap}
 use Rattle.rpc_frames.specs.Frames.{framed}
-use Rattle.lsp_session.specs.Writes.{Writes}
+use Rattle.base_core.specs.Writes.{Writes}
 use Rattle.lsp_session.proofs.Joins.{writes_then, writes_cut, flat_map_at, flat_map_next}
 use Rattle.lsp_session.proofs.write.write_bodies.Goals as goal
 

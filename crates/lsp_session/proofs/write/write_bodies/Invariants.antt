@@ -1,7 +1,7 @@
 use Rattle.std.proofs.Common.{Ok, take}
 use Rattle.std.specs.List.{flat_map}
 use Rattle.rpc_frames.specs.Frames.{framed}
-use Rattle.lsp_session.specs.Writes.{Writes}
+use Rattle.base_core.specs.Writes.{Writes}
 use Rattle.lsp_session.proofs.write.write_bodies.Given as goal
 
 abbrev pub invariant-loop-body : goal.invariant-loop-body

@@ -1,0 +1,35 @@
+//! Laws of the plain session that the other clauses cite, for the proofs above this crate. Each
+//! function does nothing.
+
+ghost use Rattle.lsp_session.specs.Causes.{EndingsHaveCauses, StatusesHaveCauses, CleanExits, NoExits};
+ghost use Rattle.lsp_session.specs.Causes.{WholeSessionsEndClean, TakenSessionsEndClean, GivenSessionsEndClean, ServedSessionsHaveCauses};
+
+/// Each ending of a session comes exactly where the polls of its call brought its cause.
+pub fn law_of_endings()
+    ensures { EndingsHaveCauses }
+{}
+
+/// So does each exit status.
+pub fn law_of_statuses()
+    ensures { StatusesHaveCauses }
+{}
+
+/// An exit is clean exactly where `initialize`, `shutdown` and `exit` came in this order, with no
+/// `exit` before.
+pub fn law_of_exits()
+    ensures clean { CleanExits }
+    ensures none { NoExits }
+{}
+
+/// A session that came whole ends with a clean exit. So does one that a link gives whole, as long as
+/// the link does not fail.
+pub fn law_of_completeness()
+    ensures ending { WholeSessionsEndClean }
+    ensures taken { TakenSessionsEndClean }
+    ensures given { GivenSessionsEndClean }
+{}
+
+/// All this of a session over a link and a sink, by its status and the polls of its call.
+pub fn law_of_serving()
+    ensures { ServedSessionsHaveCauses }
+{}

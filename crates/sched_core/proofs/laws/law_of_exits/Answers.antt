@@ -1,5 +1,0 @@
-use Rattle.sched_core.proofs.LeavingLemmas.{clean_exits, no_exits}
-use Rattle.sched_core.proofs.laws.law_of_exits.Goals as goal
-
-pub returns : goal.returns
-returns c = record { clean = clean_exits; none = no_exits }

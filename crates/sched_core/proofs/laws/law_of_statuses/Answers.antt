@@ -1,5 +1,0 @@
-use Rattle.sched_core.proofs.StatusLemmas.{statuses_have_causes}
-use Rattle.sched_core.proofs.laws.law_of_statuses.Goals as goal
-
-pub returns : goal.returns
-returns c = statuses_have_causes

@@ -1,0 +1,113 @@
+-- Messages, by the phase of the session (LSP 3.17, "Server lifecycle").
+--
+--               Fresh                       Running               ShutDown
+-- request       initialize; else -32002     those below           -32600
+-- notification  exit; else none             those below           exit; else none
+use Rattle.std.specs.Prelude.{ℕ, if◌then◌else◌, Result, Ok, Err, List, [], ◌∷◌, codes}
+use Rattle.serde_json.specs.Data.{null}
+use Rattle.lsp_types.specs.declared.messages.Id.{Id}
+use Rattle.lsp_types.specs.declared.messages.Id.TheVariants.{Null}
+use Rattle.lsp_types.specs.declared.messages.Call.{Call}
+use Rattle.lsp_types.specs.declared.messages.Call.TheVariants.{Initialize, Shutdown, Symbols, Goals}
+use Rattle.lsp_types.specs.declared.messages.Note.{Note}
+use Rattle.lsp_types.specs.declared.messages.Note.TheVariants as note
+use Rattle.lsp_types.specs.declared.messages.Incoming.{Incoming}
+use Rattle.lsp_types.specs.declared.messages.Incoming.TheVariants as incoming
+use Rattle.lsp_types.specs.declared.messages.DecodeFault.{DecodeFault}
+use Rattle.lsp_types.specs.declared.messages.DecodeFault.TheVariants as fault
+use Rattle.lsp_types.specs.declared.error_codes.ErrorCode.{ErrorCode}
+use Rattle.lsp_types.specs.declared.error_codes.ErrorCode.TheVariants as error
+use Rattle.lsp_types.specs.Bodies.{result_body, error_body}
+use Rattle.doc_check.specs.Check.{Views}
+use Rattle.sched_core.specs.declared.events.Exit.{Exit}
+use Rattle.sched_core.specs.declared.events.Exit.TheVariants.{Clean, Early}
+use Rattle.sched_core.specs.declared.phase.Phase.{Phase}
+use Rattle.sched_core.specs.declared.phase.Phase.TheVariants.{Fresh, Running, ShutDown}
+use Rattle.sched_core.specs.Step.{Step, stays, says, leaves, and_then}
+use Rattle.sched_core.specs.Session.{Session, set_phase}
+use Rattle.sched_core.specs.Bodies.{initialize_result}
+use Rattle.sched_core.specs.Documents.{refuse, did_open, did_change, did_close}
+use Rattle.sched_core.specs.Work.{grant}
+
+-- one row of the table
+abbrev pub by_phase : {A : Type 0} → Phase → A → A → A → A
+by_phase Fresh fresh running shut_down = fresh
+by_phase Running fresh running shut_down = running
+by_phase ShutDown fresh running shut_down = shut_down
+
+-- a request is answered with an error
+abbrev pub refuse_request : ErrorCode → Id → Session → Step Session
+refuse_request code id session = says (error_body id code ∷ []) session
+
+-- the session begins
+abbrev pub initialize : Id → Session → Step Session
+initialize id session = and_then (stays (set_phase Running session)) (says (result_body id initialize_result ∷ []))
+
+-- it is shut down
+abbrev pub shut_down : Id → Session → Step Session
+shut_down id session = and_then (stays (set_phase ShutDown session)) (says (result_body id null ∷ []))
+
+-- a request before `initialize`
+abbrev pub request_fresh : Id → Call → Session → Step Session
+request_fresh id Initialize session = initialize id session
+request_fresh id call session = refuse_request error.ServerNotInitialized id session
+
+-- a request between `initialize` and `shutdown`: `shutdown` is obeyed
+abbrev pub request_running : Id → Call → Session → Step Session
+request_running id Initialize session = refuse_request error.InvalidRequest id session
+request_running id Shutdown session = shut_down id session
+request_running id (Symbols uri) session = refuse_request error.MethodNotFound id session
+request_running id (Goals uri position after) session = refuse_request error.MethodNotFound id session
+
+-- a request
+abbrev pub request : Id → Call → Session → Step Session
+request id call session =
+    by_phase session.phase (request_fresh id call session) (request_running id call session) (refuse_request error.InvalidRequest id session)
+
+-- a notification where `exit` alone is heard
+abbrev pub notify_exit : Exit → Note → Session → Step Session
+notify_exit exit note.Exit session = leaves exit session
+notify_exit exit _ session = stays session
+
+-- units are for a paced session alone
+abbrev pub notify_grant : Views → List ℕ → ℕ → Session → Step Session
+notify_grant views uri units session = if session.paced then grant views uri units session else stays session
+
+-- a notification between `initialize` and `shutdown`; no request waits, so that there is nothing to cancel, and
+-- nothing is held that could be trimmed
+abbrev pub notify_running : Views → Note → Session → Step Session
+notify_running views note.Initialized session = stays session
+notify_running views note.Exit session = leaves Early session
+notify_running views (note.Cancel id) session = stays session
+notify_running views (note.DidOpen uri version text) session = did_open views uri version text session
+notify_running views (note.DidChange uri version changes) session = did_change views uri version changes session
+notify_running views (note.DidClose uri) session = did_close uri session
+notify_running views (note.Grant uri units) session = notify_grant views uri units session
+notify_running views note.Trim session = stays session
+notify_running views note.Other session = stays session
+notify_running views note.BadNote session = refuse (codes "invalid params") session
+
+-- a notification
+abbrev pub notify : Views → Note → Session → Step Session
+notify views heard session =
+    by_phase session.phase (notify_exit Early heard session) (notify_running views heard session) (notify_exit Clean heard session)
+
+-- a request that is none of those above, or whose members are bad
+abbrev pub refuse_unknown : Id → Session → Step Session
+refuse_unknown id session =
+    refuse_request (by_phase session.phase error.ServerNotInitialized error.MethodNotFound error.InvalidRequest) id session
+
+-- a body that is no message that can be obeyed; want of memory is no fault of a body, so it never comes
+abbrev pub refuse_body : DecodeFault → Session → Step Session
+refuse_body fault.NotJson session = refuse_request error.ParseError Null session
+refuse_body (fault.NotRequest id) session = refuse_request error.InvalidRequest id session
+refuse_body (fault.BadParams id initialize) session = refuse_unknown id session
+refuse_body (fault.UnknownMethod id) session = refuse_unknown id session
+refuse_body fault.NoMem session = stays session
+
+-- the step of a message
+abbrev pub hear : Views → Result Incoming DecodeFault → Session → Step Session
+hear views (Ok (incoming.Request id call)) session = request id call session
+hear views (Ok (incoming.Note heard)) session = notify views heard session
+hear views (Ok incoming.Reply) session = stays session
+hear views (Err fault) session = refuse_body fault session

@@ -1,0 +1,154 @@
+//! Documents are opened, changed and closed.
+ghost use Rattle.std.specs.Prelude.{◌≡◌, ◌≤◌, ◌<◌, length, IfOk};
+ghost use Rattle.base_core.specs.declared.limits.TheConstants.{TEXT_LIMIT};
+ghost use Rattle.doc_check.specs.Check.{views};
+ghost use Rattle.doc_check.specs.Incremental.{progress};
+ghost use Rattle.sched_core.specs.Step.{Makes};
+ghost use Rattle.sched_core.specs.Session.{document_at};
+ghost use Rattle.sched_core.specs.Documents.{did_open, add, did_change, change_at, renew, did_close, close_at, last_text};
+
+use crate::Written;
+use crate::edits::{has_range, has_too_long, last_text};
+use crate::lookup::place_of;
+use crate::open_document::OpenDocument;
+use crate::replies::{answer, refuse, written};
+use crate::sched::Sched;
+use base_core::{ChangeList, DOCUMENT_LIMIT, NoMem, Text};
+use doc_check::DocCheck;
+use prover_iface::Prover;
+use std::alloc::Global;
+use utf16_doc::{Doc, DocStop};
+
+impl<P: Prover> Sched<P> {
+    /// A document more, which says how far it is.
+    fn add(&mut self, alloc: Global, document: OpenDocument<P>) -> Result<Written, NoMem>
+        requires { length document.check.text ≤ TEXT_LIMIT }
+        ensures { Makes (add (views P.means) document self.old) result self.new }
+    {
+        let bodies = self.status_of(alloc, &document)?;
+        self.keep(document)?;
+        Ok(written(bodies))
+    }
+
+    /// A document is opened.
+    pub(crate) fn open(
+        &mut self,
+        alloc: Global,
+        uri: Text,
+        version: i32,
+        text: Text,
+    ) -> Result<Written, NoMem>
+        ensures { Makes (did_open (views P.means) uri version text self.old) result self.new }
+    {
+        if place_of(self.documents(), uri.as_str()).is_some() {
+            return refuse(alloc, "document already open");
+        }
+        if self.documents().len() >= DOCUMENT_LIMIT {
+            return refuse(alloc, "too many documents");
+        }
+        match self.begin(alloc, text) {
+            Ok((doc, check)) => self.add(alloc, OpenDocument::new(uri, version, doc, check)),
+            Err(DocStop::NoMem) => Err(NoMem),
+            Err(_) => refuse(alloc, "text too long"),
+        }
+    }
+
+    /// The text of a document behind changes, of which no sentence is finished.
+    fn begin_changed(
+        &self,
+        alloc: Global,
+        place: usize,
+        changes: &ChangeList,
+    ) -> Result<(Doc, DocCheck<P>), NoMem>
+        requires { place < length self.now.documents }
+        ensures begun { let text = last_text (document_at self.now place).check.text changes.now in
+            IfOk result (λ parts. parts.1 ≡ progress text 0) }
+        ensures same { IfOk result (λ p. p.0 ≡ p.1.text) }
+        ensures short { IfOk result (λ p. length p.1.text ≤ TEXT_LIMIT) }
+    {
+        let text = last_text(self.document(place).text(), changes.as_slice()).share()?;
+        match self.begin(alloc, text) {
+            Ok(parts) => Ok(parts),
+            Err(_) => Err(NoMem),
+        }
+    }
+
+    /// A new version of the document at a place, which says how far it is.
+    fn renew(
+        &mut self,
+        alloc: Global,
+        place: usize,
+        version: i32,
+        doc: Doc,
+        check: DocCheck<P>,
+    ) -> Result<Written, NoMem>
+        requires within { place < length self.old.documents }
+        requires same { doc ≡ check.text }
+        requires none { check.done ≡ 0 }
+        requires short { length check.text ≤ TEXT_LIMIT }
+        ensures { Makes (renew (views P.means) place version check.text self.old) result self.new }
+    {
+        self.restart(place, version, doc, check);
+        Ok(written(self.status_at(alloc, place)?))
+    }
+
+    /// The document at a place is changed to a version.
+    fn change_at(
+        &mut self,
+        alloc: Global,
+        place: usize,
+        version: i32,
+        changes: &ChangeList,
+    ) -> Result<Written, NoMem>
+        requires { place < length self.old.documents }
+        ensures { Makes (change_at (views P.means) version changes.now place self.old) result self.new }
+    {
+        if version <= self.document(place).version() {
+            return refuse(alloc, "version not greater");
+        }
+        if has_range(changes.as_slice()) {
+            return refuse(alloc, "ranged change not built");
+        }
+        if has_too_long(changes.as_slice()) {
+            return refuse(alloc, "text too long");
+        }
+        let (doc, check) = self.begin_changed(alloc, place, changes)?;
+        self.renew(alloc, place, version, doc, check)
+    }
+
+    /// A document is changed.
+    pub(crate) fn change(
+        &mut self,
+        alloc: Global,
+        uri: &str,
+        version: i32,
+        changes: &ChangeList,
+    ) -> Result<Written, NoMem>
+        ensures { Makes (did_change (views P.means) uri.now version changes.now self.old) result self.new }
+    {
+        match place_of(self.documents(), uri) {
+            Some(place) => self.change_at(alloc, place, version, changes),
+            None => refuse(alloc, "unknown document"),
+        }
+    }
+
+    /// The document at a place is closed.
+    fn close_at(&mut self, alloc: Global, place: usize) -> Result<Written, NoMem>
+        requires { place < length self.old.documents }
+        ensures { Makes (close_at place self.old) result self.new }
+    {
+        let body = self.document(place).no_diags(alloc)?;
+        self.forget(place);
+        answer(alloc, body)
+    }
+
+    /// A document is closed.
+    pub(crate) fn close(&mut self, alloc: Global, uri: &str) -> Result<Written, NoMem>
+        ensures { Makes (did_close uri.now self.old) result self.new }
+    {
+        match place_of(self.documents(), uri) {
+            Some(place) => self.close_at(alloc, place),
+            None => refuse(alloc, "unknown document"),
+        }
+    }
+}
