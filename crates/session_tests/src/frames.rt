@@ -1,6 +1,6 @@
 //! Frames, however their bytes are cut.
-use rpc_frames::{FrameFault, FrameStop, Frames, write_frame};
 use base_core::NoMem;
+use rpc_frames::{FrameFault, FrameStop, Frames, write_frame};
 use std::alloc::Global;
 use std::process::Abort;
 

@@ -1,6 +1,6 @@
 //! Bodies and their messages.
-use lsp_types::{DecodeFault, ErrorCode, Id, decode, encode_error, encode_note, encode_result};
 use base_core::{NoMem, Text};
+use lsp_types::{DecodeFault, ErrorCode, Id, decode, encode_error, encode_note, encode_result};
 use serde_json::{Value, json};
 use std::alloc::Global;
 use std::process::Abort;

@@ -211,9 +211,17 @@ const UNPACED_ROWS: [Row; 17] = [
     (&["Content-Length: 4194305\r\n\r\n"], 7, &[NO_FRAMES]),
     (&["Content-Type: x\r\n\r\n"], 7, &[NO_FRAMES]),
     (&["Content-Length: 2\n\r\n"], 7, &[NO_FRAMES]),
-    (&["Content-Length: 2\r\ncontent-length: 2\r\n\r\n"], 7, &[NO_FRAMES]),
+    (
+        &["Content-Length: 2\r\ncontent-length: 2\r\n\r\n"],
+        7,
+        &[NO_FRAMES],
+    ),
     (&[EXIT, INITIALIZE], 1, &[]),
-    (&["empty", INITIALIZE, "empty", "Content-Length: 9\r\n"], 6, &[INITIALIZED]),
+    (
+        &["empty", INITIALIZE, "empty", "Content-Length: 9\r\n"],
+        6,
+        &[INITIALIZED],
+    ),
     (&[INITIALIZE, "fail", OPEN], 3, &[INITIALIZED]),
     (&[INITIALIZE, "x\r\n", OPEN], 7, &[INITIALIZED, NO_FRAMES]),
     (
@@ -221,32 +229,58 @@ const UNPACED_ROWS: [Row; 17] = [
         1,
         &[TOO_EARLY, INITIALIZED, NO_METHOD, NO_REQUEST],
     ),
-    (&[INITIALIZE, OPEN, "idle"], 6, &[INITIALIZED, PROGRESS, ENDED, CLEAN]),
-    (&[INITIALIZE, OPEN, "idle", "idle", "fail"], 3, &[INITIALIZED, PROGRESS, ENDED, CLEAN]),
+    (
+        &[INITIALIZE, OPEN, "idle"],
+        6,
+        &[INITIALIZED, PROGRESS, ENDED, CLEAN],
+    ),
+    (
+        &[INITIALIZE, OPEN, "idle", "idle", "fail"],
+        3,
+        &[INITIALIZED, PROGRESS, ENDED, CLEAN],
+    ),
     (
         &[INITIALIZE, OPEN, "idle", CHANGE, "idle", "idle"],
         6,
-        &[INITIALIZED, PROGRESS, ENDED, CLEAN, CHANGED, ENDED_AGAIN, TAKEN],
+        &[
+            INITIALIZED,
+            PROGRESS,
+            ENDED,
+            CLEAN,
+            CHANGED,
+            ENDED_AGAIN,
+            TAKEN,
+        ],
     ),
-    (&[INITIALIZE, OPEN, "idle", GRANT_TWO, "idle"], 6, &[INITIALIZED, PROGRESS, ENDED, CLEAN]),
+    (
+        &[INITIALIZE, OPEN, "idle", GRANT_TWO, "idle"],
+        6,
+        &[INITIALIZED, PROGRESS, ENDED, CLEAN],
+    ),
     (&[INITIALIZE, SHUTDOWN, EXIT], 0, &[INITIALIZED, SHUT_DOWN]),
-    (&[INITIALIZE, OPEN, SHUTDOWN, "idle", EXIT], 0, &[INITIALIZED, PROGRESS, SHUT_DOWN]),
+    (
+        &[INITIALIZE, OPEN, SHUTDOWN, "idle", EXIT],
+        0,
+        &[INITIALIZED, PROGRESS, SHUT_DOWN],
+    ),
 ];
 
 const PACED_ROWS: [Row; 2] = [
     (
-        &[INITIALIZE, OPEN, GRANT_ONE, "idle", GRANT_TWO, SHUTDOWN, EXIT, OPEN],
+        &[
+            INITIALIZE, OPEN, GRANT_ONE, "idle", GRANT_TWO, SHUTDOWN, EXIT, OPEN,
+        ],
         0,
         &[INITIALIZED, PROGRESS, ENDED, CLEAN, SHUT_DOWN],
     ),
-    (&[INITIALIZE, OPEN, "idle", "idle"], 6, &[INITIALIZED, PROGRESS]),
+    (
+        &[INITIALIZE, OPEN, "idle", "idle"],
+        6,
+        &[INITIALIZED, PROGRESS],
+    ),
 ];
 
-fn expect_rows<R: Abort + AllocGlobal>(
-    rt: &R,
-    rows: &[Row],
-    setting: Setting,
-) -> Result<(), NoMem>
+fn expect_rows<R: Abort + AllocGlobal>(rt: &R, rows: &[Row], setting: Setting) -> Result<(), NoMem>
     requires limit { setting.limit ≤ SESSION_LIMIT }
     requires most { 0 < setting.most }
 {
@@ -256,7 +290,11 @@ fn expect_rows<R: Abort + AllocGlobal>(
         for cut in [Cut::Messages, Cut::Bytes, Cut::Joined] {
             let got = outcome(alloc, script(alloc, *words, cut)?, setting)?;
             assert_eq!(rt; got.0, *status, "at {words:?} {cut:?}");
-            assert_eq!(rt; got.1.as_slice(), written.as_slice(), "at {words:?} {cut:?}");
+            assert_eq!(rt;
+                got.1.as_slice(),
+                written.as_slice(),
+                "at {words:?} {cut:?}"
+            );
         }
     }
     Ok(())
@@ -288,7 +326,11 @@ fn expect<R: Abort + AllocGlobal>(
     requires limit { setting.limit ≤ SESSION_LIMIT }
     requires most { 0 < setting.most }
 {
-    let got = outcome(rt.alloc(), script(rt.alloc(), words, Cut::Messages)?, setting)?;
+    let got = outcome(
+        rt.alloc(),
+        script(rt.alloc(), words, Cut::Messages)?,
+        setting,
+    )?;
     assert_eq!(rt; got.0, status, "at {at}");
     assert_eq!(rt; got.1.as_slice(), written, "at {at}");
     Ok(())
@@ -297,10 +339,7 @@ fn expect<R: Abort + AllocGlobal>(
 /// A poll that fails, in each place.
 fn expect_failed_polls<R: Abort + AllocGlobal>(rt: &R) -> Result<(), NoMem> {
     for (at, bodies) in BEFORE.iter().enumerate() {
-        let setting = Setting {
-            polls: at,
-            ..PACED
-        };
+        let setting = Setting { polls: at, ..PACED };
         let written = framed(rt.alloc(), &BODIES[..(*bodies).min(5)])?;
         expect(rt, &WORDS, setting, 3, written.as_slice(), at)?;
     }
@@ -314,10 +353,12 @@ fn expect_sinks<R: Abort + AllocGlobal>(rt: &R) -> Result<(), NoMem> {
         let setting = Setting { most, ..PACED };
         expect(rt, &WORDS, setting, 0, whole.as_slice(), most)?;
     }
+    let mut fails = 0u32;
     for at in 0..whole.len() {
+        fails = fails.saturating_add(1);
         let setting = Setting {
             most: 1,
-            fails: (at as u32).saturating_add(1),
+            fails,
             ..PACED
         };
         expect(rt, &WORDS, setting, 5, &whole[..at], at)?;
