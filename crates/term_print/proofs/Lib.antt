@@ -1,0 +1,7 @@
+mod FreshLaws
+mod NameLaws
+mod OperationLaws
+mod PageLaws
+mod ScopeLaws
+mod SpineLaws
+mod WriteLaws
