@@ -4,3 +4,4 @@ pub mod Pieces
 pub mod Pages
 pub mod Show
 pub mod Operations
+pub mod Parts

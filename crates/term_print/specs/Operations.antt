@@ -14,9 +14,13 @@ operation_of name (a ∷ b ∷ []) = if bytes_eq name (codes "and") then Conjunc
 operation_of name (ty ∷ a ∷ b ∷ []) = if bytes_eq name (codes "eq") then Equation a b else Plain
 operation_of name args = Plain
 
--- it, written
+-- a global with its arguments, where they make no operation
+abbrev pub plain : List Slot → List ℕ → List Tree → List (List ℕ) → Piece
+plain env name args names = applied (piece 0 name) (show_all env args names)
+
+-- an operation, written
 abbrev pub written : List Slot → List ℕ → List Tree → List (List ℕ) → Operation → Piece
-written env name args names Plain = applied (piece 0 name) (show_all env args names)
+written env name args names Plain = plain env name args names
 written env name args names (Negation a) = negation (show env a [] names)
 written env name args names (Conjunction a b) = conjunction (show env a [] names) (show env b [] names)
 written env name args names (Disjunction a b) = disjunction (show env a [] names) (show env b [] names)

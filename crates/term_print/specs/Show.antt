@@ -86,13 +86,3 @@ abbrev pub printed : List Slot → List Hyp → Tree → List ℕ
 printed env ctx t =
     if nat_lt PRINTED_NODES_LIMIT (size_of t) then large
     else (if nat_lt PRINTED_BYTES_LIMIT (length (whole_text env ctx t)) then large else whole_text env ctx t)
-
--- what a product is written as whose variable is used
-abbrev pub quantified_at : List Slot → List ℕ → Tree → Tree → List (List ℕ) → Piece
-quantified_at env n a b names = quantified (is_quantified b) (fresh names n) (show env a [] names) (show env b [] (fresh names n ∷ names))
-
-abbrev pub function_at : List Slot → List ℕ → Tree → Tree → List (List ℕ) → Piece
-function_at env n a b names = function (is_function b) (parameter names n b) (show env a [] names) (show env b [] (parameter names n b ∷ names))
-
-abbrev pub definition_at : List Slot → List ℕ → Tree → Tree → Tree → List (List ℕ) → Piece
-definition_at env n a t b names = definition (fresh names n) (show env a [] names) (show env t [] names) (show env b [] (fresh names n ∷ names))

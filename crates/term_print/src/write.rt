@@ -1,11 +1,9 @@
-ghost use Rattle.std.specs.Prelude.{◌≡◌, [], ◌∷◌, ◌++◌, OnOk, IfOk, codes};
-ghost use Rattle.core_term.specs.Tree.{Prod, Lam, LetIn};
+ghost use Rattle.std.specs.Prelude.{◌≡◌, OnOk, IfOk};
 ghost use Rattle.term_spine.specs.Spine.{IsHead};
-ghost use Rattle.term_spine.specs.Spines.{IsSpineOf};
-ghost use Rattle.term_print.specs.Freshness.{fresh};
-ghost use Rattle.term_print.specs.Pieces.{at_most, sort_text, piece, argument_texts, applied, arrow, operation, group, binding, first_binder, rest_of_run};
-ghost use Rattle.term_print.specs.Show.{show, show_all, is_used, is_quantified, is_function, parameter, variable_name, global_name, quantified_at, function_at, definition_at};
-ghost use Rattle.term_print.specs.Operations.{written, operation_of, spine_level, applied_level, operation_level, constant_level};
+ghost use Rattle.term_print.specs.Pieces.{at_most, sort_text, group, binding, first_binder};
+ghost use Rattle.term_print.specs.Show.{is_quantified, is_function, parameter, variable_name};
+ghost use Rattle.term_print.specs.Parts.{shown, shown_spine, shown_applied, shown_global, shown_arguments, arrow_at, quantified_at, quantified_in_run, function_at, function_in_run, let_text, behind_product, behind_parameter};
+ghost use Rattle.term_print.specs.Operations.{plain, written, spine_level, applied_level, constant_level};
 ghost use Rattle.term_print.specs.Pages.{added};
 
 use crate::operations::{Operation, global_name, is_used, operation_of};
@@ -149,7 +147,7 @@ pub fn write_at(
     t: &Term,
     scope: &Scope,
 ) -> Result<(), NoMem>
-    ensures { OnOk result (page.new ≡ added page.old (at_most most (show env.now t.now [] scope.now))) }
+    ensures { OnOk result (page.new ≡ added page.old (at_most most (shown env.now t.now scope.now))) }
 {
     let spine = spine(alloc, t)?;
     let level = spine_level(alloc, env, &spine.head, &spine.args)?;
@@ -174,7 +172,7 @@ fn write_spine(
     scope: &Scope,
 ) -> Result<(), NoMem>
     requires { IsHead head.now }
-    ensures { OnOk result (page.new ≡ added page.old (show env.now head.now (show_all env.now args.now scope.now) scope.now).text) }
+    ensures { OnOk result (page.new ≡ added page.old (shown_spine env.now head.now args.now scope.now).text) }
 {
     match head.node() {
         Node::Constant(c) => write_constant(page, alloc, env, *c, args, scope),
@@ -194,11 +192,11 @@ fn write_constant(
     args: &Arguments,
     scope: &Scope,
 ) -> Result<(), NoMem>
-    ensures { OnOk result (page.new ≡ added page.old (operation (global_name env.now place) (show_all env.now args.now scope.now)).text) }
+    ensures { OnOk result (page.new ≡ added page.old (shown_global env.now place args.now scope.now).text) }
 {
     let name = global_name(alloc, env, place)?;
-    let operation = operation_of(&name, args)?;
-    write_operation(page, alloc, env, &name, args, &operation, scope)
+    let found = operation_of(&name, args)?;
+    write_operation(page, alloc, env, &name, args, &found, scope)
 }
 
 /// An operation with its operands, or a global with its arguments.
@@ -210,12 +208,12 @@ fn write_operation(
     env: &GlobalEnv,
     name: &Text,
     args: &Arguments,
-    operation: &Operation,
+    found: &Operation,
     scope: &Scope,
 ) -> Result<(), NoMem>
-    ensures { OnOk result (page.new ≡ added page.old (written env.now name.now args.now scope.now operation.now).text) }
+    ensures { OnOk result (page.new ≡ added page.old (written env.now name.now args.now scope.now found.now).text) }
 {
-    match operation {
+    match found {
         Operation::Plain => write_plain(page, alloc, env, name, args, scope),
         Operation::Negation(a) => {
             page.put("~ ")?;
@@ -250,7 +248,7 @@ fn write_plain(
     args: &Arguments,
     scope: &Scope,
 ) -> Result<(), NoMem>
-    ensures { OnOk result (page.new ≡ added page.old (applied (piece 0 name.now) (show_all env.now args.now scope.now)).text) }
+    ensures { OnOk result (page.new ≡ added page.old (plain env.now name.now args.now scope.now).text) }
 {
     match args.split()? {
         None => page.put(name.as_str()),
@@ -273,7 +271,7 @@ fn write_applied(
     scope: &Scope,
 ) -> Result<(), NoMem>
     requires { IsHead head.now }
-    ensures { OnOk result (page.new ≡ added page.old (applied (show env.now head.now [] scope.now) (show_all env.now args.now scope.now)).text) }
+    ensures { OnOk result (page.new ≡ added page.old (shown_applied env.now head.now args.now scope.now).text) }
 {
     match args.split()? {
         None => write_head(page, alloc, env, head, scope),
@@ -295,7 +293,7 @@ fn write_arguments(
     rest: &Arguments,
     scope: &Scope,
 ) -> Result<(), NoMem>
-    ensures { OnOk result (page.new ≡ added page.old (argument_texts (show_all env.now (first.now ∷ rest.now) scope.now))) }
+    ensures { OnOk result (page.new ≡ added page.old (shown_arguments env.now first.now rest.now scope.now)) }
 {
     page.put(" ")?;
     write_at(page, alloc, env, 9, first, scope)?;
@@ -316,7 +314,7 @@ fn write_head(
     scope: &Scope,
 ) -> Result<(), NoMem>
     requires { IsHead head.now }
-    ensures { OnOk result (page.new ≡ added page.old (show env.now head.now [] scope.now).text) }
+    ensures { OnOk result (page.new ≡ added page.old (shown env.now head.now scope.now).text) }
 {
     match head.node() {
         Node::Var(i) => {
@@ -363,7 +361,7 @@ fn write_arrow(
     codomain: &Term,
     scope: &Scope,
 ) -> Result<(), NoMem>
-    ensures { OnOk result (page.new ≡ added page.old (arrow (show env.now domain.now [] scope.now) (show env.now codomain.now [] (codes "_" ∷ scope.now))).text) }
+    ensures { OnOk result (page.new ≡ added page.old (arrow_at env.now domain.now codomain.now scope.now).text) }
 {
     let inner = scope.with_first(alloc, Text::copy(alloc, "_")?)?;
     write_at(page, alloc, env, 98, domain, scope)?;
@@ -379,17 +377,17 @@ fn write_quantified(
     alloc: Global,
     env: &GlobalEnv,
     name: &Text,
-    domain: &Term,
-    codomain: &Term,
+    ty: &Term,
+    body: &Term,
     scope: &Scope,
 ) -> Result<(), NoMem>
-    ensures { OnOk result (page.new ≡ added page.old (quantified_at env.now name.now domain.now codomain.now scope.now).text) }
+    ensures { OnOk result (page.new ≡ added page.old (quantified_at env.now name.now ty.now body.now scope.now).text) }
 {
     let own = scope.fresh(alloc, name)?;
     page.put("forall ")?;
-    write_first_binder(page, alloc, env, is_quantified(codomain), &own, domain, scope)?;
+    write_first_binder(page, alloc, env, is_quantified(body), &own, ty, scope)?;
     let inner = scope.with_first(alloc, own)?;
-    write_products(page, alloc, env, codomain, &inner)
+    write_products(page, alloc, env, body, &inner)
 }
 
 /// What follows a binder of a run of products.
@@ -402,7 +400,7 @@ fn write_products(
     body: &Term,
     scope: &Scope,
 ) -> Result<(), NoMem>
-    ensures { OnOk result (page.new ≡ added page.old (rest_of_run (is_quantified body.now) (codes ", ") (show env.now body.now [] scope.now))) }
+    ensures { OnOk result (page.new ≡ added page.old (behind_product env.now body.now scope.now)) }
 {
     match body.node() {
         Node::Prod {
@@ -426,17 +424,17 @@ fn write_next_product(
     alloc: Global,
     env: &GlobalEnv,
     name: &Text,
-    domain: &Term,
-    codomain: &Term,
+    ty: &Term,
+    body: &Term,
     scope: &Scope,
 ) -> Result<(), NoMem>
-    ensures { OnOk result (page.new ≡ added page.old (quantified_at env.now name.now domain.now codomain.now scope.now).in_run) }
+    ensures { OnOk result (page.new ≡ added page.old (quantified_in_run env.now name.now ty.now body.now scope.now)) }
 {
     let own = scope.fresh(alloc, name)?;
     page.put(" ")?;
-    write_group(page, alloc, env, &own, domain, scope)?;
+    write_group(page, alloc, env, &own, ty, scope)?;
     let inner = scope.with_first(alloc, own)?;
-    write_products(page, alloc, env, codomain, &inner)
+    write_products(page, alloc, env, body, &inner)
 }
 
 /// A function with the run that it begins.
@@ -447,15 +445,15 @@ fn write_function(
     alloc: Global,
     env: &GlobalEnv,
     name: &Text,
-    domain: &Term,
+    ty: &Term,
     body: &Term,
     scope: &Scope,
 ) -> Result<(), NoMem>
-    ensures { OnOk result (page.new ≡ added page.old (function_at env.now name.now domain.now body.now scope.now).text) }
+    ensures { OnOk result (page.new ≡ added page.old (function_at env.now name.now ty.now body.now scope.now).text) }
 {
     let own = parameter(alloc, scope, name, body)?;
     page.put("fun ")?;
-    write_first_binder(page, alloc, env, is_function(body), &own, domain, scope)?;
+    write_first_binder(page, alloc, env, is_function(body), &own, ty, scope)?;
     let inner = scope.with_first(alloc, own)?;
     write_functions(page, alloc, env, body, &inner)
 }
@@ -470,7 +468,7 @@ fn write_functions(
     body: &Term,
     scope: &Scope,
 ) -> Result<(), NoMem>
-    ensures { OnOk result (page.new ≡ added page.old (rest_of_run (is_function body.now) (codes " => ") (show env.now body.now [] scope.now))) }
+    ensures { OnOk result (page.new ≡ added page.old (behind_parameter env.now body.now scope.now)) }
 {
     match body.node() {
         Node::Lam {
@@ -492,15 +490,15 @@ fn write_next_function(
     alloc: Global,
     env: &GlobalEnv,
     name: &Text,
-    domain: &Term,
+    ty: &Term,
     body: &Term,
     scope: &Scope,
 ) -> Result<(), NoMem>
-    ensures { OnOk result (page.new ≡ added page.old (function_at env.now name.now domain.now body.now scope.now).in_run) }
+    ensures { OnOk result (page.new ≡ added page.old (function_in_run env.now name.now ty.now body.now scope.now)) }
 {
     let own = parameter(alloc, scope, name, body)?;
     page.put(" ")?;
-    write_group(page, alloc, env, &own, domain, scope)?;
+    write_group(page, alloc, env, &own, ty, scope)?;
     let inner = scope.with_first(alloc, own)?;
     write_functions(page, alloc, env, body, &inner)
 }
@@ -517,7 +515,7 @@ fn write_let(
     body: &Term,
     scope: &Scope,
 ) -> Result<(), NoMem>
-    ensures { OnOk result (page.new ≡ added page.old (definition_at env.now name.now ty.now value.now body.now scope.now).text) }
+    ensures { OnOk result (page.new ≡ added page.old (let_text env.now name.now ty.now value.now body.now scope.now)) }
 {
     let own = scope.fresh(alloc, name)?;
     page.put("let ")?;
@@ -540,7 +538,7 @@ fn write_first_binder(
     ty: &Term,
     scope: &Scope,
 ) -> Result<(), NoMem>
-    ensures { OnOk result (page.new ≡ added page.old (first_binder goes_on name.now (show env.now ty.now [] scope.now))) }
+    ensures { OnOk result (page.new ≡ added page.old (first_binder goes_on name.now (shown env.now ty.now scope.now))) }
 {
     if goes_on {
         write_group(page, alloc, env, name, ty, scope)
@@ -559,7 +557,7 @@ fn write_group(
     ty: &Term,
     scope: &Scope,
 ) -> Result<(), NoMem>
-    ensures { OnOk result (page.new ≡ added page.old (group name.now (show env.now ty.now [] scope.now))) }
+    ensures { OnOk result (page.new ≡ added page.old (group name.now (shown env.now ty.now scope.now))) }
 {
     page.put("(")?;
     write_binding(page, alloc, env, name, ty, scope)?;
@@ -577,7 +575,7 @@ fn write_binding(
     ty: &Term,
     scope: &Scope,
 ) -> Result<(), NoMem>
-    ensures { OnOk result (page.new ≡ added page.old (binding name.now (show env.now ty.now [] scope.now))) }
+    ensures { OnOk result (page.new ≡ added page.old (binding name.now (shown env.now ty.now scope.now))) }
 {
     page.put(name.as_str())?;
     page.put(" : ")?;

@@ -15,7 +15,7 @@ abbrev pub decreases-write_constant : goal.decreases-write_constant
 decreases-write_constant l = 8 * arguments_size l.args.now + 11
 
 abbrev pub decreases-write_operation : goal.decreases-write_operation
-decreases-write_operation l = 8 * max (operands_size l.operation.now) (arguments_size l.args.now) + 10
+decreases-write_operation l = 8 * max (operands_size l.found.now) (arguments_size l.args.now) + 10
 
 abbrev pub decreases-write_plain : goal.decreases-write_plain
 decreases-write_plain l = 8 * arguments_size l.args.now + 9
@@ -33,22 +33,22 @@ abbrev pub decreases-write_arrow : goal.decreases-write_arrow
 decreases-write_arrow l = 8 * (size_of l.domain.now + size_of l.codomain.now) + 9
 
 abbrev pub decreases-write_quantified : goal.decreases-write_quantified
-decreases-write_quantified l = 8 * (size_of l.domain.now + size_of l.codomain.now) + 9
+decreases-write_quantified l = 8 * (size_of l.ty.now + size_of l.body.now) + 9
 
 abbrev pub decreases-write_products : goal.decreases-write_products
 decreases-write_products l = 8 * size_of l.body.now + 8
 
 abbrev pub decreases-write_next_product : goal.decreases-write_next_product
-decreases-write_next_product l = 8 * (size_of l.domain.now + size_of l.codomain.now) + 9
+decreases-write_next_product l = 8 * (size_of l.ty.now + size_of l.body.now) + 9
 
 abbrev pub decreases-write_function : goal.decreases-write_function
-decreases-write_function l = 8 * (size_of l.domain.now + size_of l.body.now) + 9
+decreases-write_function l = 8 * (size_of l.ty.now + size_of l.body.now) + 9
 
 abbrev pub decreases-write_functions : goal.decreases-write_functions
 decreases-write_functions l = 8 * size_of l.body.now + 8
 
 abbrev pub decreases-write_next_function : goal.decreases-write_next_function
-decreases-write_next_function l = 8 * (size_of l.domain.now + size_of l.body.now) + 9
+decreases-write_next_function l = 8 * (size_of l.ty.now + size_of l.body.now) + 9
 
 abbrev pub decreases-write_let : goal.decreases-write_let
 decreases-write_let l = 8 * (size_of l.ty.now + size_of l.value.now + size_of l.body.now) + 9
