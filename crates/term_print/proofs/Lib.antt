@@ -2,6 +2,7 @@ mod FreshLaws
 mod NameLaws
 mod OperationLaws
 mod PageLaws
+mod Samples
 mod ScopeLaws
 mod SpineLaws
 mod WriteLaws

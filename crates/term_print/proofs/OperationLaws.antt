@@ -20,7 +20,7 @@ operation_written env name [] names = refl
 operation_written env name (a ∷ []) names = written_if (bytes_eq name (codes "not")) env name (a ∷ []) names (Negation a) Plain
 operation_written env name (a ∷ b ∷ []) names =
     ap (λ p. if bytes_eq name (codes "and") then written env name (a ∷ b ∷ []) names (Conjunction a b) else p)
-        (written_if (bytes_eq name (codes "or")) env name (a ∷ b ∷ []) names (Disjunction a b) Plain)
+    (written_if (bytes_eq name (codes "or")) env name (a ∷ b ∷ []) names (Disjunction a b) Plain)
     ∙ written_if (bytes_eq name (codes "and")) env name (a ∷ b ∷ []) names (Conjunction a b) (if bytes_eq name (codes "or") then Disjunction a b else Plain)
 operation_written env name (ty ∷ a ∷ b ∷ []) names = written_if (bytes_eq name (codes "eq")) env name (ty ∷ a ∷ b ∷ []) names (Equation a b) Plain
 operation_written env name (a ∷ b ∷ c ∷ d ∷ more) names = refl
@@ -64,7 +64,7 @@ operands_small name [] = omega arith
 operands_small name (a ∷ []) = operands_if (bytes_eq name (codes "not")) (Negation a) Plain (1 + size_of a + 0) (omega arith) (omega arith)
 operands_small name (a ∷ b ∷ []) =
     operands_if (bytes_eq name (codes "and")) (Conjunction a b) (if bytes_eq name (codes "or") then Disjunction a b else Plain) (1 + size_of a + (1 + size_of b + 0)) (omega arith)
-        (operands_if (bytes_eq name (codes "or")) (Disjunction a b) Plain (1 + size_of a + (1 + size_of b + 0)) (omega arith) (omega arith))
+    (operands_if (bytes_eq name (codes "or")) (Disjunction a b) Plain (1 + size_of a + (1 + size_of b + 0)) (omega arith) (omega arith))
 operands_small name (ty ∷ a ∷ b ∷ []) =
     operands_if (bytes_eq name (codes "eq")) (Equation a b) Plain (1 + size_of ty + (1 + size_of a + (1 + size_of b + 0))) (omega arith) (omega arith)
 operands_small name (a ∷ b ∷ c ∷ d ∷ more) = omega arith

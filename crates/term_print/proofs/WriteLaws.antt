@@ -15,11 +15,11 @@ use Rattle.term_print.proofs.OperationLaws.{level_shown}
 
 at_spine : (env : List Slot) (s : Spine) (t : Tree) (most : ℕ) (names : List (List ℕ)) → IsSpineOf s t → (b : Bool) → nat_lt most (spine_level env s.head s.args) ≡ b →
     at_most most (show env t [] names)
-      ≡ (if b then codes "(" ++ ((show env s.head (show_all env s.args names) names).text ++ codes ")") else (show env s.head (show_all env s.args names) names).text)
+    ≡ (if b then codes "(" ++ ((show env s.head (show_all env s.args names) names).text ++ codes ")") else (show env s.head (show_all env s.args names) names).text)
 at_spine env s t most names is b h =
     ap (at_most most) (shown_spine env t s.head s.args names is.whole)
     ∙ ap (λ c. if c then codes "(" ++ ((show env s.head (show_all env s.args names) names).text ++ codes ")") else (show env s.head (show_all env s.args names) names).text)
-        (ap (nat_lt most) (level_shown env s.head s.args names is.head) ∙ h)
+    (ap (nat_lt most) (level_shown env s.head s.args names is.head) ∙ h)
 
 pub in_parentheses : (env : List Slot) (s : Spine) (t : Tree) (most level : ℕ) (names : List (List ℕ)) → IsSpineOf s t → level ≡ spine_level env s.head s.args → most < level →
     at_most most (show env t [] names) ≡ codes "(" ++ ((show env s.head (show_all env s.args names) names).text ++ codes ")")

@@ -78,10 +78,10 @@ first_binder goes_on name ty = if goes_on then group name ty else binding name t
 -- a binder over a body, alone or in a run, where it is told whether the body goes on with it
 abbrev pub bound_piece : List ℕ → List ℕ → Bool → List ℕ → Piece → Piece → Piece
 bound_piece word sign goes_on name ty body = record {
-    level = 200;
-    text = word ++ (first_binder goes_on name ty ++ rest_of_run goes_on sign body);
-    in_run = codes " " ++ (group name ty ++ rest_of_run goes_on sign body)
-  }
+  level = 200;
+  text = word ++ (first_binder goes_on name ty ++ rest_of_run goes_on sign body);
+  in_run = codes " " ++ (group name ty ++ rest_of_run goes_on sign body);
+}
 
 abbrev pub quantified : Bool → List ℕ → Piece → Piece → Piece
 quantified goes_on name ty body = bound_piece (codes "forall ") (codes ", ") goes_on name ty body

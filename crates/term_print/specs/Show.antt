@@ -53,7 +53,7 @@ show env (Sorted s) args names = applied (piece 0 (sort_text s)) args
 show env (Constant c) args names = operation (global_name env c) args
 show env (Prod n a b) args names =
     applied (if is_used b then quantified (is_quantified b) (fresh names n) (show env a [] names) (show env b [] (fresh names n ∷ names))
-        else arrow (show env a [] names) (show env b [] (codes "_" ∷ names))) args
+    else arrow (show env a [] names) (show env b [] (codes "_" ∷ names))) args
 show env (Lam n a b) args names =
     applied (function (is_function b) (parameter names n b) (show env a [] names) (show env b [] (parameter names n b ∷ names))) args
 show env (LetIn n a t b) args names =

@@ -8,6 +8,4 @@ mod scope;
 mod spine;
 mod write;
 
-pub use page::Page;
 pub use print::print_term;
-pub use scope::Scope;

@@ -1,3 +1,4 @@
+//! Which globals are operators, by their names and their arguments.
 ghost use Rattle.std.specs.Prelude.{◌≡◌, ◌∷◌, IfOk};
 ghost use Rattle.core_term.specs.Tree.{App};
 ghost use Rattle.term_print.specs.Operations.{operation_of, spine_level};

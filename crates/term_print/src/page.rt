@@ -1,3 +1,4 @@
+//! A text that is given up once it is too long.
 ghost use Rattle.std.specs.Prelude.{◌≡◌, [], OnOk, IfOk, Some};
 ghost use Rattle.term_print.specs.Pages.{added, text_or_large};
 

@@ -1,3 +1,4 @@
+//! The text of a term of a context.
 ghost use Rattle.std.specs.Prelude.{◌≡◌, [], ◌∷◌, ◌++◌, IfOk, OnOk, codes};
 ghost use Rattle.term_spine.specs.Globals.{globals_of, places_in};
 ghost use Rattle.term_print.specs.Pages.{added, large, text_or_large};
@@ -5,8 +6,9 @@ ghost use Rattle.term_print.specs.Pieces.{at_most};
 ghost use Rattle.term_print.specs.Show.{show, hyp_names, global_names, names_around, whole_text, printed};
 
 use crate::operations::global_name;
+use crate::page::Page;
+use crate::scope::Scope;
 use crate::write::write_at;
-use crate::{Page, Scope};
 use base_core::{NoMem, PRINTED_NODES_LIMIT, Text};
 use cic_rules::{Context, GlobalEnv};
 use core_term::Term;
@@ -16,12 +18,7 @@ use term_spine::globals;
 /// The text of a term of a context, with the operators of the prelude and with binders renamed
 /// where their names are taken. One that has too many nodes, or whose text would be too long, is
 /// `<large>`, and of it no more is built than the limit allows.
-pub fn print_term(
-    alloc: Global,
-    env: &GlobalEnv,
-    ctx: &Context,
-    t: &Term,
-) -> Result<Text, NoMem>
+pub fn print_term(alloc: Global, env: &GlobalEnv, ctx: &Context, t: &Term) -> Result<Text, NoMem>
     ensures { IfOk result (λ text. text ≡ printed env.now ctx.now t.now) }
 {
     if t.size() > PRINTED_NODES_LIMIT {
@@ -31,12 +28,7 @@ pub fn print_term(
 }
 
 /// The same of a term that has not too many nodes.
-fn print_small(
-    alloc: Global,
-    env: &GlobalEnv,
-    ctx: &Context,
-    t: &Term,
-) -> Result<Text, NoMem>
+fn print_small(alloc: Global, env: &GlobalEnv, ctx: &Context, t: &Term) -> Result<Text, NoMem>
     ensures { IfOk result (λ text. text ≡ text_or_large (added (Some []) (whole_text env.now ctx.now t.now))) }
 {
     let scope = names_around(alloc, env, ctx, t)?;
@@ -46,12 +38,7 @@ fn print_small(
 }
 
 /// The names that no binder of the term may have.
-fn names_around(
-    alloc: Global,
-    env: &GlobalEnv,
-    ctx: &Context,
-    t: &Term,
-) -> Result<Scope, NoMem>
+fn names_around(alloc: Global, env: &GlobalEnv, ctx: &Context, t: &Term) -> Result<Scope, NoMem>
     ensures { IfOk result (λ scope. scope ≡ names_around env.now ctx.now t.now) }
 {
     let hypotheses = names_of_hypotheses(alloc, ctx)?;

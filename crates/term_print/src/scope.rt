@@ -1,3 +1,4 @@
+//! The names that no new binder may have.
 ghost use Rattle.std.specs.Prelude.{◌≡◌, suc, [], ◌∷◌, ◌++◌, slice_get, length, IfOk};
 ghost use Rattle.std.specs.Option.{option_copied};
 ghost use Rattle.term_print.specs.Freshness.{has_name, fresh, stem_of, candidate, first_free};

@@ -1,3 +1,4 @@
+//! Terms as heads with arguments.
 ghost use Rattle.std.specs.Prelude.{◌≡◌, ◌+◌, IfOk};
 ghost use Rattle.core_term.specs.Tree.{size_of};
 ghost use Rattle.term_spine.specs.Spine.{IsHead, arguments_size};

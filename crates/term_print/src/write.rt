@@ -1,3 +1,4 @@
+//! What is written for a term, part by part.
 ghost use Rattle.std.specs.Prelude.{◌≡◌, OnOk, IfOk};
 ghost use Rattle.term_spine.specs.Spine.{IsHead};
 ghost use Rattle.term_print.specs.Pieces.{at_most, sort_text, group, binding, first_binder};
@@ -7,8 +8,9 @@ ghost use Rattle.term_print.specs.Operations.{plain, written, spine_level, appli
 ghost use Rattle.term_print.specs.Pages.{added};
 
 use crate::operations::{Operation, global_name, is_used, operation_of};
+use crate::page::Page;
+use crate::scope::Scope;
 use crate::spine::spine;
-use crate::{Page, Scope};
 use base_core::{NoMem, Text};
 use cic_rules::GlobalEnv;
 use core_term::{Node, Sort, Term};
@@ -81,12 +83,7 @@ fn is_function(t: &Term) -> bool
 }
 
 /// How loosely a head with its arguments holds together.
-fn spine_level(
-    alloc: Global,
-    env: &GlobalEnv,
-    head: &Term,
-    args: &Arguments,
-) -> Result<u32, NoMem>
+fn spine_level(alloc: Global, env: &GlobalEnv, head: &Term, args: &Arguments) -> Result<u32, NoMem>
     requires { IsHead head.now }
     ensures { IfOk result (λ level. level ≡ spine_level env.now head.now args.now) }
 {
