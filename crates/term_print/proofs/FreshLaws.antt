@@ -1,5 +1,5 @@
 -- The search for a free name, step by step.
-use Rattle.std.proofs.Common.{◌≡◌, ℕ, suc, ◌+◌, ◌-◌, ◌<◌, ◌≤◌, List, [], ◌∷◌, length, Bool, true, false, if◌then◌else◌, refl, sym, ◌∙◌, ap, arith}
+use Rattle.std.proofs.Common.{◌≡◌, ℕ, suc, ◌-◌, ◌<◌, List, true, false, if◌then◌else◌, ◌∙◌, ap, arith}
 use Rattle.term_print.specs.Freshness.{has_name, candidate, first_free}
 
 pub is_taken : (taken : List (List ℕ)) (stem : List ℕ) (k n : ℕ) → k < n → has_name taken (candidate stem k) ≡ true →

@@ -1,10 +1,9 @@
 -- The names around a term, one after the other.
-use Rattle.std.proofs.Common.{◌≡◌, ℕ, suc, ◌+◌, List, [], ◌∷◌, ◌++◌, length, drop, slice_get, get_or, Option, Some, None, refl, sym, ◌∙◌, ap, append_assoc, add-one, drop-cons}
+use Rattle.std.proofs.Common.{◌≡◌, ℕ, suc, ◌+◌, List, [], ◌∷◌, ◌++◌, length, drop, slice_get, Some, refl, sym, ◌∙◌, ap, append_assoc, add-one, drop-cons}
 use Rattle.std.proofs.lemmas.Option.{slice_get_within, get_or_from_slice_get}
 use Rattle.std.proofs.Math.Seq.{drop-length}
 use Rattle.cic_rules.specs.declared.context.Hyp.{Hyp}
-use Rattle.cic_rules.specs.declared.env.Slot.{Slot}
-use Rattle.term_print.specs.Show.{hyp_names, global_name, global_names}
+use Rattle.term_print.specs.Show.{hyp_names}
 
 front : {A : Type 0} (xs : List A) (i : ℕ) (x : A) → slice_get xs i ≡ Some x → drop i xs ≡ x ∷ drop (i + 1) xs
 front xs i x h =

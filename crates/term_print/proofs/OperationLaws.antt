@@ -1,5 +1,5 @@
 -- Operations, their levels and their operands.
-use Rattle.std.proofs.Common.{◌≡◌, ◌≤◌, bytes_eq, ℕ, ◌+◌, List, [], ◌∷◌, codes, Bool, true, false, if◌then◌else◌, refl, sym, ◌∙◌, ap, arith}
+use Rattle.std.proofs.Common.{◌≡◌, ◌≤◌, bytes_eq, ℕ, ◌+◌, List, [], ◌∷◌, codes, Bool, true, false, if◌then◌else◌, refl, ◌∙◌, ap, arith}
 use Rattle.core_term.specs.Tree.{Tree, Var, Sorted, Constant, Prod, Lam, LetIn, App, size_of}
 use Rattle.cic_rules.specs.declared.env.Slot.{Slot}
 use Rattle.term_spine.specs.Spine.{IsHead, arguments_size}

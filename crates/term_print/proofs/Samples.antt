@@ -1,11 +1,11 @@
 -- Worked examples of the definition.
-use Rattle.std.proofs.Common.{◌≡◌, ℕ, List, [], ◌∷◌, codes, None, refl}
-use Rattle.core_term.specs.Tree.{Tree, Var, Sorted, Constant, Prod, Lam, LetIn, App}
+use Rattle.std.proofs.Common.{◌≡◌, ℕ, List, [], ◌∷◌, codes, refl}
+use Rattle.core_term.specs.Tree.{Var, Sorted, Constant, Prod, Lam, LetIn, App}
 use Rattle.core_term.specs.declared.sorts.Sort.TheVariants.{PropSort}
-use Rattle.cic_rules.specs.declared.entries.Entry.{Entry}
 use Rattle.cic_rules.specs.declared.entries.EntryKind.TheVariants.{Assumed}
 use Rattle.cic_rules.specs.declared.env.Slot.{Slot}
 use Rattle.cic_rules.specs.Environments.{own_slot}
+use Rattle.term_print.specs.Freshness.{fresh}
 use Rattle.term_print.specs.Show.{show, whole_text}
 
 abbrev axiom_of : List ℕ → Slot
@@ -19,9 +19,9 @@ identity : whole_text globals [] (Prod (codes "x") (Sorted PropSort) (Prod (code
 unfolding show
 identity = refl
 
--- a run of products; the second name is taken by the first
-run : whole_text globals [] (Prod (codes "y") (Sorted PropSort) (Prod (codes "y") (Var 0) (App (App (Constant 0) (Var 1)) (Var 0))))
-    ≡ codes "forall (y : Prop) (y0 : y), y /\\ y0"
+-- a run of products
+run : whole_text globals [] (Prod (codes "y") (Sorted PropSort) (Prod (codes "z") (Var 0) (App (App (Constant 0) (Var 1)) (Var 0))))
+    ≡ codes "forall (y : Prop) (z : y), y /\\ z"
 unfolding show
 run = refl
 
@@ -30,10 +30,14 @@ one_more : whole_text globals [] (App (App (App (Constant 0) (Sorted PropSort)) 
 unfolding show
 one_more = refl
 
--- a binder named like a global of the term, and one that isn't used
-global_taken : whole_text globals [] (Lam (codes "x") (Constant 1) (Lam (codes "z") (Var 0) (Var 1))) ≡ codes "fun (x0 : x) (_ : x0) => x0"
+-- a run of functions, where one variable isn't used
+functions : whole_text globals [] (Lam (codes "y") (Constant 1) (Lam (codes "z") (Var 0) (Var 1))) ≡ codes "fun (y : x) (_ : y) => y"
 unfolding show
-global_taken = refl
+functions = refl
+
+-- a binder without a name of its own
+named : fresh (codes "y" ∷ []) (codes "_") ≡ codes "x"
+named = refl
 
 -- both sides of an arrow
 nested : whole_text globals [] (Prod (codes "_") (Prod (codes "_") (Sorted PropSort) (Sorted PropSort)) (Prod (codes "_") (Sorted PropSort) (Sorted PropSort)))

@@ -1,12 +1,12 @@
 -- Where a term stands in parentheses, told by its head and its arguments.
-use Rattle.std.proofs.Common.{◌≡◌, ◌≤◌, ◌<◌, ℕ, nat_lt, List, [], ◌∷◌, ◌++◌, codes, Bool, true, false, Option, Result, Ok, Err, OnOk, if◌then◌else◌, refl, sym, ◌∙◌, ap, arith}
+use Rattle.std.proofs.Common.{◌≡◌, ◌≤◌, ◌<◌, ℕ, nat_lt, List, [], ◌++◌, codes, Bool, true, false, Option, Result, Ok, Err, OnOk, if◌then◌else◌, sym, ◌∙◌, ap}
 use Rattle.std.proofs.lemmas.Bool.{lt-ltb, le-ltb}
 use Rattle.core_term.specs.Tree.{Tree}
 use Rattle.cic_rules.specs.declared.env.Slot.{Slot}
 use Rattle.term_spine.specs.declared.spines.Spine.{Spine}
 use Rattle.term_spine.specs.Spines.{IsSpineOf}
 use Rattle.term_print.specs.Show.{show, show_all}
-use Rattle.term_print.specs.Pieces.{Piece, at_most}
+use Rattle.term_print.specs.Pieces.{at_most}
 use Rattle.term_print.specs.Operations.{spine_level}
 use Rattle.term_print.specs.Pages.{added}
 use Rattle.term_print.proofs.PageLaws.{added_append}

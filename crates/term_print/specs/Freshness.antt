@@ -1,5 +1,5 @@
 -- Names for binders that are free.
-use Rattle.std.specs.Prelude.{bytes_eq, ◌≡◌, ℕ, zero, suc, List, [], ◌∷◌, ◌++◌, length, codes, decimal, Bool, true, false, Option, Some, None, if◌then◌else◌}
+use Rattle.std.specs.Prelude.{bytes_eq, ℕ, zero, suc, List, [], ◌∷◌, ◌++◌, length, codes, decimal, Bool, true, false, if◌then◌else◌}
 
 -- the name is among these
 abbrev pub has_name : List (List ℕ) → List ℕ → Bool

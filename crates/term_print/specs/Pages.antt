@@ -1,5 +1,5 @@
 -- A text that is given up once it is too long.
-use Rattle.std.specs.Prelude.{◌≡◌, ◌≤◌, ℕ, nat_lt, List, ◌++◌, length, string_bytes, codes, Option, Some, None, if◌then◌else◌}
+use Rattle.std.specs.Prelude.{ℕ, nat_lt, List, ◌++◌, length, codes, Option, Some, None, if◌then◌else◌}
 use Rattle.base_core.specs.declared.limits.TheConstants.{PRINTED_BYTES_LIMIT}
 
 -- what is written so far, with more behind it; none where that is too long
