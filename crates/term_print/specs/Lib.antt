@@ -1,0 +1,7 @@
+pub mod Freshness
+pub mod Scope
+pub mod Pieces
+pub mod Pages
+pub mod Show
+pub mod Operations
+pub mod Parts

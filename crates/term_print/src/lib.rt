@@ -1,0 +1,11 @@
+//! Terms as texts, with the operators of the prelude and with names that are free.
+#![tactic(auto)]
+
+mod operations;
+mod page;
+mod print;
+mod scope;
+mod spine;
+mod write;
+
+pub use print::print_term;
