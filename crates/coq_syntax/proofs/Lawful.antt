@@ -24,7 +24,7 @@ pub record Widened (text : List ℕ) (len : ℕ) (after : Pieces) : Type 0 where
   pub tokens : (at : ℕ) → tokens_of at pieces ≡ tokens_of (at + length (encode_utf8_all (take len text))) after
 
 unfoldable pub IsLawful : List ℕ → Piece → Type 0
-IsLawful text (Gap len) = (after : Pieces) → ArePieces after → characters_of after ≡ drop len text → Widened text len after
+IsLawful text (Gap len) = (0 < len) × ((after : Pieces) → ArePieces after → characters_of after ≡ drop len text → Widened text len after)
 IsLawful text (Lexeme shape len) = IsLexeme (kind_of shape (encode_utf8_all (take len text))) (take len text) (drop len text)
 
 take_one : (c : ℕ) (rest : List ℕ) → take 1 (c ∷ rest) ≡ c ∷ []
@@ -32,12 +32,15 @@ take_one c rest = refl
 
 blank_law : (c : ℕ) (rest : List ℕ) → is_blank c ≡ true → IsLawful (c ∷ rest) (Gap 1)
 unfolding IsLawful
-blank_law c rest e after fit is = record {
-  pieces = Blank c after;
-  fit = (e, fit);
-  spelled = ap (λ t. c ∷ t) is;
-  tokens = λ at. ap (λ n. tokens_of (at + n) after) (sym (ap length (append-nil (encode_utf8 c))));
-}
+blank_law c rest e = (
+  omega arith,
+  λ after fit is. record {
+    pieces = Blank c after;
+    fit = (e, fit);
+    spelled = ap (λ t. c ∷ t) is;
+    tokens = λ at. ap (λ n. tokens_of (at + n) after) (sym (ap length (append-nil (encode_utf8 c))));
+  },
+)
 
 split_at : (text front tail : List ℕ) (n : ℕ) → text ≡ front ++ tail → n ≡ length text - length tail → (take n text ≡ front) × (drop n text ≡ tail)
 split_at text front tail n e is =
@@ -46,16 +49,19 @@ split_at text front tail n e is =
 
 comment_law : (c : ℕ) (rest tail : List ℕ) → Commented c rest tail → IsLawful (c ∷ rest) (Gap (length (c ∷ rest) - length tail))
 unfolding IsLawful
-comment_law c rest tail k after fit is =
+comment_law c rest tail k =
     let parts : c ∷ rest ≡ comment_of k.inside ++ tail = k.spelled ∙ ap (λ t. 40 ∷ 42 ∷ t) (spells-append k.inside (42 ∷ 41 ∷ []) tail) in
-    let cut = split_at (c ∷ rest) (comment_of k.inside) tail (length (c ∷ rest) - length tail) parts refl in
-    let same : tail ≡ characters_of after = sym (is ∙ cut.1) in
-    record {
-      pieces = Comment k.inside after;
-      fit = (subst (λ t. AreItems k.inside (42 ∷ 41 ∷ t)) same k.items, fit);
-      spelled = ap (λ t. 40 ∷ 42 ∷ spells k.inside (42 ∷ 41 ∷ t)) (sym same) ∙ sym k.spelled;
-      tokens = λ at. ap (λ cs. tokens_of (at + length (encode_utf8_all cs)) after) (sym cut.0);
-    }
+    let cut = split_at (c ∷ rest) (comment_of k.inside) tail (length (c ∷ rest) - length tail) parts refl in (
+      omega (arith, ap length parts, length-append (comment_of k.inside) tail),
+      λ after fit is.
+          let same : tail ≡ characters_of after = sym (is ∙ cut.1) in
+          record {
+            pieces = Comment k.inside after;
+            fit = (subst (λ t. AreItems k.inside (42 ∷ 41 ∷ t)) same k.items, fit);
+            spelled = ap (λ t. 40 ∷ 42 ∷ spells k.inside (42 ∷ 41 ∷ t)) (sym same) ∙ sym k.spelled;
+            tokens = λ at. ap (λ cs. tokens_of (at + length (encode_utf8_all cs)) after) (sym cut.0);
+          },
+    )
 
 run_cut : (c : ℕ) (rest : List ℕ) (n : ℕ) → (take (1 + n) (c ∷ rest) ≡ c ∷ take n rest) × (drop (1 + n) (c ∷ rest) ≡ drop n rest)
 run_cut c rest n = let one : 1 + n ≡ suc n = omega arith in (rw one refl, rw one refl)

@@ -8,3 +8,14 @@ pub mod Classes
 pub mod Heads
 pub mod Unique
 pub mod Examples
+pub mod TokensFrom
+pub mod TokensPlaced
+pub mod Splits
+pub mod Assigned
+pub mod OneRefusal
+pub mod FirstWords
+pub mod Values
+pub mod LevelLaws
+pub mod Told
+pub mod Counted
+pub mod Rows

@@ -53,7 +53,7 @@ gap_passed body at n from bytes found p shown less shows few found_is gap size h
       within = omega (arith, length-drop at body);
       place = moved body at n from bytes size h.place;
       whole = λ after fit same.
-          let w : Widened (drop at body) n after = law after fit (same ∙ sym (drop-drop body at n)) in
+          let w : Widened (drop at body) n after = law.1 after fit (same ∙ sym (drop-drop body at n)) in
           let later : tokens_of from w.pieces ≡ tokens_of (from + bytes) after = w.tokens from ∙ ap (λ k. tokens_of (from + k) after) (sym size) in
           subst (λ ts. AreTokensOf body (found ++ ts)) later (h.whole w.pieces w.fit w.spelled);
     }

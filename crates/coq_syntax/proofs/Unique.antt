@@ -81,7 +81,7 @@ fit_after (Blank c after) h = h.1
 fit_after (Comment inside after) h = h.1
 fit_after (Token_piece kind cs after) h = h.1
 
-no_lexeme : (kind : TokenKind) (rest : List ℕ) → IsLexeme kind [] rest → ⊥
+pub no_lexeme : (kind : TokenKind) (rest : List ℕ) → IsLexeme kind [] rest → ⊥
 no_lexeme Identifier rest h = h.0.0
 no_lexeme Wildcard rest h = h.0.0
 no_lexeme Reserved rest h = h.0.0

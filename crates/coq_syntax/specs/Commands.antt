@@ -6,6 +6,8 @@ use Rattle.coq_syntax.specs.declared.command.AssumptionWord.{AssumptionWord}
 use Rattle.coq_syntax.specs.declared.command.AssumptionWord.TheVariants.{Axiom, Parameter}
 use Rattle.coq_syntax.specs.declared.command.StatementWord.{StatementWord}
 use Rattle.coq_syntax.specs.declared.command.StatementWord.TheVariants.{Theorem, Lemma}
+use Rattle.coq_syntax.specs.declared.command_words.CommandWord.TheVariants as word
+use Rattle.coq_syntax.specs.CommandWords.{word_text}
 use Rattle.coq_syntax.specs.CommandTrees.{Constructor, Command, Assume, Define, State, Inductive, Check, Proof, Qed, Defined, Admitted, Aborted}
 use Rattle.coq_syntax.specs.Spelled.{symbol, keyword, identifier, spells, groups, annotation}
 use Rattle.coq_syntax.specs.Grammar.{IsTerm, AreGroups, IsAnnotation}
@@ -13,12 +15,12 @@ use Rattle.coq_syntax.specs.Limits.{most_nested}
 use Rattle.coq_syntax.specs.Faults.{Fault, first, groups_fault, annotation_fault, term_fault}
 
 abbrev pub assumption_word : AssumptionWord → List ℕ
-assumption_word Axiom = codes "Axiom"
-assumption_word Parameter = codes "Parameter"
+assumption_word Axiom = word_text word.Axiom
+assumption_word Parameter = word_text word.Parameter
 
 abbrev pub statement_word : StatementWord → List ℕ
-statement_word Theorem = codes "Theorem"
-statement_word Lemma = codes "Lemma"
+statement_word Theorem = word_text word.Theorem
+statement_word Lemma = word_text word.Lemma
 
 -- ["|"]
 abbrev pub bar : Option TokenPlace → List Token → List Token
@@ -38,19 +40,19 @@ abbrev pub command_tokens : Command → List Token
 -- `Axiom` or `Parameter`, name `:` term
 command_tokens (Assume w p x q t) = keyword (assumption_word w) p ∷ identifier x ∷ symbol (codes ":") q ∷ spells t []
 -- `Definition` name groups annotation `:=` term
-command_tokens (Define p x gs a q t) = keyword (codes "Definition") p ∷ identifier x ∷ groups gs (annotation a (symbol (codes ":=") q ∷ spells t []))
+command_tokens (Define p x gs a q t) = keyword (word_text word.Definition) p ∷ identifier x ∷ groups gs (annotation a (symbol (codes ":=") q ∷ spells t []))
 -- `Theorem` or `Lemma`, name groups `:` term
 command_tokens (State w p x gs q t) = keyword (statement_word w) p ∷ identifier x ∷ groups gs (symbol (codes ":") q ∷ spells t [])
 -- `Inductive` name groups `:` term `:=` constructors
-command_tokens (Inductive p x gs q t r cs) = keyword (codes "Inductive") p ∷ identifier x ∷ groups gs (symbol (codes ":") q ∷ spells t (symbol (codes ":=") r ∷ constructors cs []))
+command_tokens (Inductive p x gs q t r cs) = keyword (word_text word.Inductive) p ∷ identifier x ∷ groups gs (symbol (codes ":") q ∷ spells t (symbol (codes ":=") r ∷ constructors cs []))
 -- `Check` term
-command_tokens (Check p t) = keyword (codes "Check") p ∷ spells t []
+command_tokens (Check p t) = keyword (word_text word.Check) p ∷ spells t []
 -- each of these words alone
-command_tokens (Proof p) = keyword (codes "Proof") p ∷ []
-command_tokens (Qed p) = keyword (codes "Qed") p ∷ []
-command_tokens (Defined p) = keyword (codes "Defined") p ∷ []
-command_tokens (Admitted p) = keyword (codes "Admitted") p ∷ []
-command_tokens (Aborted p) = keyword (codes "Abort") p ∷ []
+command_tokens (Proof p) = keyword (word_text word.Proof) p ∷ []
+command_tokens (Qed p) = keyword (word_text word.Qed) p ∷ []
+command_tokens (Defined p) = keyword (word_text word.Defined) p ∷ []
+command_tokens (Admitted p) = keyword (word_text word.Admitted) p ∷ []
+command_tokens (Aborted p) = keyword (word_text word.Abort) p ∷ []
 
 abbrev pub IsConstructor : Constructor → Type 0
 IsConstructor c = AreGroups c.groups × IsAnnotation c.annotation

@@ -17,3 +17,13 @@ pub mod Faults
 pub mod Commands
 pub mod Moves
 pub mod Examples
+pub mod SentenceTokens
+pub mod TokenPlaces
+pub mod Refusals
+pub mod Meets
+pub mod MeetsWhole
+pub mod Answers
+pub mod CommandWords
+pub mod Levels
+pub mod BinderRows
+pub mod Counts

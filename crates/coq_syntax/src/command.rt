@@ -1,7 +1,7 @@
 ghost use Rattle.std.specs.Prelude.{◌≡◌};
 ghost use Rattle.coq_syntax.specs.Forms.{command_of};
 
-use crate::{Annotation, Group, SurfaceTerm, TokenPlace, Word};
+use crate::{Annotation, GroupList, SurfaceTerm, TokenPlace, Word};
 use std::marker::Model;
 
 #[derive(Clone, Copy, Debug, PartialEq, Eq)]
@@ -21,7 +21,7 @@ pub enum StatementWord {
 pub struct Constructor {
     pub bar: Option<TokenPlace>,
     pub name: Word,
-    pub groups: Vec<Group>,
+    pub groups: GroupList,
     pub annotation: Annotation,
 }
 
@@ -44,7 +44,7 @@ pub enum CommandForm {
     Define {
         keyword: TokenPlace,
         name: Word,
-        groups: Vec<Group>,
+        groups: GroupList,
         annotation: Annotation,
         assign: TokenPlace,
         body: SurfaceTerm,
@@ -53,14 +53,14 @@ pub enum CommandForm {
         word: StatementWord,
         keyword: TokenPlace,
         name: Word,
-        groups: Vec<Group>,
+        groups: GroupList,
         colon: TokenPlace,
         ty: SurfaceTerm,
     },
     Inductive {
         keyword: TokenPlace,
         name: Word,
-        groups: Vec<Group>,
+        groups: GroupList,
         colon: TokenPlace,
         arity: SurfaceTerm,
         assign: TokenPlace,

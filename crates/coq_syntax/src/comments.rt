@@ -76,7 +76,8 @@ fn step(state: State, character: char, rest: &[char]) -> State
 /// The place behind the mark that closes a comment, in what follows its first character.
 pub fn after_comment(text: &[char]) -> Option<usize>
     requires { length text.now < 2 ^ 32 }
-    ensures { MatchOption result (comment_end text.now ≡ None) (λ i. (i ≤ length text.now) × (comment_end text.now ≡ Some (drop i text.now))) }
+    ensures { MatchOption result (comment_end text.now ≡ None)
+        (λ i. (i ≤ length text.now) × (comment_end text.now ≡ Some (drop i text.now))) }
 {
     let mut state = State {
         depth: 1,

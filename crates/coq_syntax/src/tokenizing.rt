@@ -2,6 +2,8 @@ ghost use Rattle.std.specs.Prelude.{◌≡◌, ◌^◌, ◌<◌, length, IfOk, e
 ghost use Rattle.std.specs.Str.{chars};
 ghost use Rattle.base_core.specs.Fit.{EndsInPeriod};
 ghost use Rattle.coq_syntax.specs.Pieces.{AreTokensOf, IsTokenList};
+ghost use Rattle.coq_syntax.specs.SentenceTokens.{sentence_tokens};
+ghost use Rattle.coq_syntax.specs.TokenPlaces.{ArePlaced};
 
 use crate::pieces::{Piece, first_piece, kind_of};
 use crate::rooms::closing_marks;
@@ -76,7 +78,9 @@ fn pieces_tokens(alloc: Global, body: &[char]) -> Result<Vec<Token>, NoMem>
 pub fn tokens(alloc: Global, sentence: &str) -> Result<TokenList, NoMem>
     requires ended { EndsInPeriod sentence.now }
     requires short { length sentence.now < 2 ^ 32 }
-    ensures { IfOk result (IsTokenList sentence.now) }
+    ensures list { IfOk result (IsTokenList sentence.now) }
+    ensures value { IfOk result (λ list. list ≡ sentence_tokens sentence.now) }
+    ensures places { IfOk result (ArePlaced sentence.now) }
 {
     let period = sentence.len() - 1;
     let body = characters(alloc, &sentence[..period])?;

@@ -94,8 +94,11 @@ pub enum Binders {
         colon: TokenPlace,
         ty: Box<SurfaceTerm>,
     },
-    Groups(Vec<Group>),
+    Groups(GroupList),
 }
+
+/// Groups of binders, in order.
+pub type GroupList = Vec<Group>;
 
 /// `(x y : T)`.
 #[derive(Drop)]

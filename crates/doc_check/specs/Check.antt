@@ -1,4 +1,5 @@
--- What checking a text means, for any prover.
+-- What checking a text means, for any prover. The sentences are those of `sentences`: by the law of splits of
+-- `sentence_split` they are the one split that the grammar of sentences allows.
 use Rattle.std.specs.Prelude.{ℕ, ◌+◌, ◌≤◌, Option, None, Some, List, [], ◌∷◌, ◌++◌, map, fold, length, take, slice_index_or, slice_range}
 use Rattle.base_core.specs.declared.kind.Kind.TheVariants.{Plain}
 use Rattle.base_core.specs.declared.refusal_codes.TheConstants as code

@@ -5,8 +5,8 @@ use Rattle.base_core.specs.declared.refusals.Stop.TheVariants as stop
 use Rattle.coq_syntax.specs.declared.token.Token.{Token}
 use Rattle.coq_syntax.specs.Tokens.{Tokens}
 use Rattle.coq_syntax.specs.Faults.{Fault}
-use Rattle.vernac_parser.specs.Refusals.{IsBehind, IsAssigned, IsLongest, NoTree, AtEnd, IsUnexpected, IsLimit}
-use Rattle.vernac_parser.specs.MeetsWhole.{IsRefusedWhole}
+use Rattle.coq_syntax.specs.Refusals.{IsBehind, IsAssigned, IsLongest, NoTree, AtEnd, IsUnexpected, IsLimit}
+use Rattle.coq_syntax.specs.MeetsWhole.{IsRefusedWhole}
 use Rattle.move_parser.specs.declared.cursor.Halt.{Halt}
 use Rattle.move_parser.specs.declared.cursor.Halt.TheVariants.{Unexpected, NoMem}
 use Rattle.move_parser.specs.Parts.{IsPart, IsTail}

@@ -1,7 +1,7 @@
 -- Where a token stands behind the end of a move.
 use Rattle.std.proofs.Common.{◌≡◌, Err, List, [], ◌∷◌, take, refl, sym, ◌∙◌, ap, subst}
 use Rattle.coq_syntax.specs.declared.token.Token.{Token}
-use Rattle.vernac_parser.specs.Refusals.{IsUnexpected}
+use Rattle.coq_syntax.specs.Refusals.{IsUnexpected}
 use Rattle.move_parser.specs.declared.cursor.Halt.{Halt}
 use Rattle.move_parser.specs.declared.cursor.Halt.TheVariants.{Unexpected, NoMem}
 use Rattle.move_parser.specs.Reading.{IsHere}

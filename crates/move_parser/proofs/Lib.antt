@@ -4,7 +4,8 @@ pub mod Turns
 pub mod Tokens
 pub mod PartLaws
 pub mod Words
-pub mod Farther
 pub mod Terms
 pub mod OneMove
 pub mod Ending
+pub mod MoveLaw
+pub mod Told

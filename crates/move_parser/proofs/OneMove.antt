@@ -17,11 +17,12 @@ use Rattle.move_parser.specs.declared.move_word.MoveWord.TheVariants.{Exact, App
 use Rattle.move_parser.specs.declared.move_word.PlainWord.{PlainWord}
 use Rattle.move_parser.specs.declared.move_word.PlainWord.TheVariants.{Intro, Intros, Assumption, Split, Left, Right, Reflexivity, Admit, Simpl, Unfold, Destruct, Induction}
 use Rattle.move_parser.specs.Marks.{written}
-use Rattle.move_parser.specs.MoveAnswers.{OneMove}
+use Rattle.coq_syntax.specs.MeetsWhole.{OneMove}
 use Rattle.move_parser.proofs.Tokens.{identifier_same, written_same, heads, tails, none_at_end, close_no_name, close_no_bar}
 use Rattle.move_parser.proofs.PartLaws.{all_back, case_back, body-append}
 use Rattle.move_parser.proofs.Terms.{forward_back, backward_back}
-use Rattle.move_parser.proofs.Words.{PlainRest, Rest, IsPlainRest, IsRest, build, built, from_word, cut}
+use Rattle.move_parser.specs.MoveRests.{PlainRest, Rest, build}
+use Rattle.move_parser.proofs.Words.{IsPlainRest, IsRest, built, from_word, cut}
 
 same_optional : (x y : Option Word) → optional x ≡ optional y → x ≡ y
 same_optional None None e = refl

@@ -8,7 +8,7 @@ use Rattle.coq_syntax.specs.MoveTrees.{PatternCase, Pattern}
 use Rattle.coq_syntax.specs.Spelled.{identifier, name, names}
 use Rattle.coq_syntax.specs.Faults.{Fault}
 use Rattle.coq_syntax.specs.Moves.{optional, identifiers, cases, pattern_tokens}
-use Rattle.vernac_parser.specs.Refusals.{IsBehind, IsUnexpected}
+use Rattle.coq_syntax.specs.Refusals.{IsBehind, IsUnexpected}
 use Rattle.vernac_parser.proofs.Shapes.{spare, x_word}
 use Rattle.move_parser.specs.declared.cursor.Halt.{Halt}
 use Rattle.move_parser.specs.declared.cursor.Halt.TheVariants.{Unexpected, NoMem}

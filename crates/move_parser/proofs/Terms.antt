@@ -14,13 +14,13 @@ use Rattle.coq_syntax.specs.Grammar.{IsTerm, IsTermOf}
 use Rattle.coq_syntax.specs.Moves.{direction}
 use Rattle.vernac_parser.specs.Signs.{sign_at, symbol_sign, begins_term}
 use Rattle.vernac_parser.specs.Parser.{unexpected}
-use Rattle.vernac_parser.specs.Refusals.{IsBehind, NoTree, AtEnd, IsUnexpected}
-use Rattle.vernac_parser.specs.Meets.{fault_of_term, IsRead, IsRefused}
-use Rattle.vernac_parser.specs.MeetsWhole.{IsRefusedWhole}
-use Rattle.vernac_parser.specs.Answers.{IsParsed, next_place}
+use Rattle.coq_syntax.specs.Refusals.{IsBehind, NoTree, AtEnd, IsUnexpected}
+use Rattle.coq_syntax.specs.Meets.{fault_of_term, IsRead, IsRefused}
+use Rattle.coq_syntax.specs.MeetsWhole.{IsRefusedWhole}
+use Rattle.coq_syntax.specs.Answers.{next_place}
+use Rattle.vernac_parser.specs.Answers.{IsParsed}
 use Rattle.vernac_parser.proofs.Refused.{fault_within}
 use Rattle.vernac_parser.proofs.Viable.{behind_more}
-use Rattle.move_parser.proofs.Farther.{faults_farther}
 use Rattle.vernac_parser.proofs.Heads.{head_of, term_begins}
 use Rattle.move_parser.specs.declared.mark.Mark.TheVariants as mark
 use Rattle.move_parser.specs.Marks.{written, is_mark}
@@ -43,14 +43,14 @@ some_left : (rest : List Token) (P : Type 0) → (rest ≡ [] → ⊥) → AtEnd
 some_left [] P some = absurd (some refl)
 some_left (t ∷ w) P some = tt
 
-term_left : (l rest : List Token) (t : Term) → IsRead l t rest → (rest ≡ [] → ⊥) → IsUnexpected IsTermOf fault_of_term l rest
+pub term_left : (l rest : List Token) (t : Term) → IsRead l t rest → (rest ≡ [] → ⊥) → IsUnexpected IsTermOf fault_of_term l rest
 term_left l rest t r some = record {
   used = r.used;
   parts = r.parts;
   more = [];
   tree = t;
   begun = subst (λ i. IsTermOf i t) (sym (append-nil r.used)) r.tree;
-  each = λ others x is a. faults_farther l rest t r others x is a;
+  each = λ others x is a. r.each others x is a;
   sound = subst (IsBehind 0) (sym r.sound) tt;
   longest = r.longest;
   early = some_left rest (NoTree IsTermOf r.used) some;
@@ -116,13 +116,13 @@ rewriting_within i r h =
     let size : length (spells r.1 []) ≤ length i = omega (arith, direction_longer r.0 (spells r.1 []), ap length h.1) in
     behind_more (length (spells r.1 [])) (length i) (fault_of_term r.1) size (fault_within r.1 h.0)
 
-behind_forward : (p : TokenPlace) (l : List Token) → Behind IsRewritingOf fault_of_rewriting IsTermOf fault_of_term (written mark.Forward p ∷ []) l (λ t. (Forward p, t))
+pub behind_forward : (p : TokenPlace) (l : List Token) → Behind IsRewritingOf fault_of_rewriting IsTermOf fault_of_term (written mark.Forward p ∷ []) l (λ t. (Forward p, t))
 behind_forward p l = record { into = λ i t h. (h.0, ap (λ j. written mark.Forward p ∷ j) h.1); back = λ i r a h. pair_back i r (Forward p) (forward_back p i r.0 r.1 h.0 h.1); same = λ t. refl; elsewhere = λ i r h a e. e i r.1 (forward_back p i r.0 r.1 h.0 h.1).0 a }
 
-behind_backward : (p : TokenPlace) (l : List Token) → Behind IsRewritingOf fault_of_rewriting IsTermOf fault_of_term (written mark.Backward p ∷ []) l (λ t. (Backward p, t))
+pub behind_backward : (p : TokenPlace) (l : List Token) → Behind IsRewritingOf fault_of_rewriting IsTermOf fault_of_term (written mark.Backward p ∷ []) l (λ t. (Backward p, t))
 behind_backward p l = record { into = λ i t h. (h.0, ap (λ j. written mark.Backward p ∷ j) h.1); back = λ i r a h. pair_back i r (Backward p) (backward_back p i r.0 r.1 h.0 h.1); same = λ t. refl; elsewhere = λ i r h a e. e i r.1 (backward_back p i r.0 r.1 h.0 h.1).0 a }
 
-behind_unmarked : (l : List Token) → NoneNext (written mark.Forward) l → NoneNext (written mark.Backward) l → Behind IsRewritingOf fault_of_rewriting IsTermOf fault_of_term [] l (λ t. (Unmarked, t))
+pub behind_unmarked : (l : List Token) → NoneNext (written mark.Forward) l → NoneNext (written mark.Backward) l → Behind IsRewritingOf fault_of_rewriting IsTermOf fault_of_term [] l (λ t. (Unmarked, t))
 behind_unmarked l f b = record { into = λ i t h. h; back = λ i r a h. pair_back i r Unmarked (unmarked_back l i r.0 r.1 f b a h.0 h.1); same = λ t. refl; elsewhere = λ i r h a e. rewriting_within i r h }
 
 -- the tokens behind the first

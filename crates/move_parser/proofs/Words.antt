@@ -16,13 +16,13 @@ use Rattle.coq_syntax.specs.Spelled.{keyword}
 use Rattle.coq_syntax.specs.Grammar.{IsTermOf}
 use Rattle.coq_syntax.specs.Faults.{Fault}
 use Rattle.coq_syntax.specs.Moves.{IsMoveOf, move_fault}
-use Rattle.vernac_parser.specs.Meets.{fault_of_term}
+use Rattle.coq_syntax.specs.Meets.{fault_of_term}
 use Rattle.vernac_parser.specs.Parser.{unexpected}
-use Rattle.vernac_parser.specs.Refusals.{IsBehind, IsUnexpected}
+use Rattle.coq_syntax.specs.Refusals.{IsBehind, IsUnexpected}
 use Rattle.vernac_parser.proofs.Refused.{fault_within}
 use Rattle.vernac_parser.proofs.Viable.{behind_more}
 use Rattle.move_parser.proofs.Terms.{rewriting_within}
-use Rattle.vernac_parser.specs.Answers.{next_place}
+use Rattle.coq_syntax.specs.Answers.{next_place}
 use Rattle.vernac_parser.proofs.SignLaws.{is_token}
 use Rattle.vernac_parser.proofs.Shapes.{spare}
 use Rattle.move_parser.specs.declared.cursor.Halt.{Halt}
@@ -33,30 +33,10 @@ use Rattle.move_parser.specs.declared.move_word.MoveWord.TheVariants.{Exact, App
 use Rattle.move_parser.specs.declared.move_word.PlainWord.{PlainWord}
 use Rattle.move_parser.specs.declared.move_word.PlainWord.TheVariants.{Intro, Intros, Assumption, Split, Left, Right, Reflexivity, Admit, Simpl, Unfold, Destruct, Induction}
 use Rattle.move_parser.specs.MoveWords.{plain_text, text_of, plain, plain_word_of_text, word_of_text}
+use Rattle.move_parser.specs.MoveRests.{PlainRest, Rest, build_plain, build}
 use Rattle.move_parser.specs.Parts.{IsEndOf, IsOptionalOf, AreIdentifiersOf, IsIdentifierOf, IsSubjectOf, IsRewritingOf, fault_of_rewriting, no_fault, IsPart, IsTail}
 use Rattle.move_parser.proofs.Tokens.{heads, tails, next_of}
 use Rattle.move_parser.proofs.Behind.{Behind, part_halted, tail_stopped, read_behind, unexpected_here}
-
--- what stands behind a word
-abbrev pub PlainRest : PlainWord → Type 0
-PlainRest Intro = Option Word
-PlainRest Intros = List Word
-PlainRest Assumption = Unit {0}
-PlainRest Split = Unit {0}
-PlainRest Left = Unit {0}
-PlainRest Right = Unit {0}
-PlainRest Reflexivity = Unit {0}
-PlainRest Admit = Unit {0}
-PlainRest Simpl = Unit {0}
-PlainRest Unfold = Word
-PlainRest Destruct = Word × Option Pattern
-PlainRest Induction = Word × Option Pattern
-
-abbrev pub Rest : MoveWord → Type 0
-Rest Exact = Term
-Rest Apply = Term
-Rest Rewrite = Direction × Term
-Rest (Plain w) = PlainRest w
 
 abbrev pub IsPlainRest : (w : PlainWord) → List Token → PlainRest w → Type 0
 IsPlainRest Intro = IsOptionalOf
@@ -83,27 +63,6 @@ rest_fault Exact = fault_of_term
 rest_fault Apply = fault_of_term
 rest_fault Rewrite = fault_of_rewriting
 rest_fault (Plain w) = no_fault
-
-abbrev pub build_plain : (w : PlainWord) → TokenPlace → PlainRest w → Move
-build_plain Intro p x = move.Intro p x
-build_plain Intros p xs = move.Intros p xs
-build_plain Assumption p u = move.Assumption p
-build_plain Split p u = move.Split p
-build_plain Left p u = move.Left p
-build_plain Right p u = move.Right p
-build_plain Reflexivity p u = move.Reflexivity p
-build_plain Admit p u = move.Admit p
-build_plain Simpl p u = move.Simpl p
-build_plain Unfold p x = move.Unfold p x
-build_plain Destruct p s = move.Destruct p s.0 s.1
-build_plain Induction p s = move.Induction p s.0 s.1
-
--- the move of a word at a place, and what stands behind it
-abbrev pub build : (w : MoveWord) → TokenPlace → Rest w → Move
-build Exact p t = move.Exact p t
-build Apply p t = move.Apply p t
-build Rewrite p r = move.Rewrite p r.0 r.1
-build (Plain w) p r = build_plain w p r
 
 -- each move is built so
 pub record Built (m : Move) : Type 0 where
@@ -239,7 +198,7 @@ same_fault Apply p r = refl
 same_fault Rewrite p r = refl
 same_fault (Plain w) p r = fault_plain w p r
 
-behind_word : (w : MoveWord) (p : TokenPlace) (l : List Token) → Behind IsMoveOf move_fault (IsRest w) (rest_fault w) (keyword (text_of w) p ∷ []) l (build w p)
+pub behind_word : (w : MoveWord) (p : TokenPlace) (l : List Token) → Behind IsMoveOf move_fault (IsRest w) (rest_fault w) (keyword (text_of w) p ∷ []) l (build w p)
 behind_word w p l = record {
   into = λ i r h. rest_into w p i r h;
   back = λ i m a h. let f = from_word w p i m h in (f.rest, f.read, f.is);
@@ -352,15 +311,18 @@ move_within i m h =
     (behind_more (length c.rest) (length i) (rest_fault b.word b.rest) size (rest_within b.word c.rest b.rest c.read))
 
 -- no word stands first
-pub no_word : {D : Type 0} (seen : D → Move) (tokens : Tokens) (e : Stop) (left : List Token) → ((w : MoveWord) (p : TokenPlace) (rest : List Token) → tokens.items ≡ keyword (text_of w) p ∷ rest → ⊥) → left ≡ tokens.items → e ≡ stop.Refused (record { code = unexpected; place = next_place tokens.period left }) → IsTail IsMoveOf move_fault seen tokens 0 (Err e)
-no_word seen tokens e left none here is =
-    rw is (record { code = unexpected; rest = left }, inl (refl, subst (λ i. IsUnexpected IsMoveOf move_fault tokens.items i) (sym here) (unexpected_here IsMoveOf move_fault tokens.items (keyword (codes "split") spare ∷ []) (move.Split spare) (tt, refl) move_within by)), (refl, refl))
+pub no_word_first : (tokens : List Token) → ((w : MoveWord) (p : TokenPlace) (rest : List Token) → tokens ≡ keyword (text_of w) p ∷ rest → ⊥) → IsUnexpected IsMoveOf move_fault tokens tokens
+no_word_first tokens none = unexpected_here IsMoveOf move_fault tokens (keyword (codes "split") spare ∷ []) (move.Split spare) (tt, refl) move_within by
   where
-    by : (i : List Token) (m : Move) → take 1 i ≡ take 1 tokens.items → IsMoveOf i m → ⊥
+    by : (i : List Token) (m : Move) → take 1 i ≡ take 1 tokens → IsMoveOf i m → ⊥
     by i m a f =
         let b = built m in
         let c = cut b.word b.place b.rest i (subst (IsMoveOf i) b.is f) in
-        next_of spelled_word (b.word, b.place) i tokens.items c.rest a c.parts (λ x rest same. none x.0 x.1 rest same)
+        next_of spelled_word (b.word, b.place) i tokens c.rest a c.parts (λ x rest same. none x.0 x.1 rest same)
+
+pub no_word : {D : Type 0} (seen : D → Move) (tokens : Tokens) (e : Stop) (left : List Token) → ((w : MoveWord) (p : TokenPlace) (rest : List Token) → tokens.items ≡ keyword (text_of w) p ∷ rest → ⊥) → left ≡ tokens.items → e ≡ stop.Refused (record { code = unexpected; place = next_place tokens.period left }) → IsTail IsMoveOf move_fault seen tokens 0 (Err e)
+no_word seen tokens e left none here is =
+    rw is (record { code = unexpected; rest = left }, inl (refl, subst (λ i. IsUnexpected IsMoveOf move_fault tokens.items i) (sym here) (no_word_first tokens.items none)), (refl, refl))
 
 -- a move that halted
 pub halted : {C : Type 0} (seen : C → Move) (tokens : Tokens) (l : List Token) (e : Stop) (h : Halt) → tokens.items ≡ l → IsPart IsMoveOf move_fault seen l (Err h) → e ≡ stop_of tokens h → IsTail IsMoveOf move_fault seen tokens 0 (Err e)

@@ -3,3 +3,7 @@ pub mod Marks
 pub mod Parts
 pub mod Reading
 pub mod MoveAnswers
+pub mod MoveRests
+pub mod WholeMove
+pub mod Sentences
+pub mod Lawful

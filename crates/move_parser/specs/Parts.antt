@@ -14,10 +14,10 @@ use Rattle.coq_syntax.specs.Spelled.{identifier, name, names, spells}
 use Rattle.coq_syntax.specs.Grammar.{IsTerm}
 use Rattle.coq_syntax.specs.Faults.{Fault}
 use Rattle.coq_syntax.specs.Moves.{optional, identifiers, cases, pattern_tokens, direction}
-use Rattle.vernac_parser.specs.Refusals.{IsUnexpected}
-use Rattle.vernac_parser.specs.Meets.{fault_of_term}
-use Rattle.vernac_parser.specs.MeetsWhole.{IsRefusedWhole}
-use Rattle.vernac_parser.specs.Answers.{IsRefusal}
+use Rattle.coq_syntax.specs.Refusals.{IsUnexpected}
+use Rattle.coq_syntax.specs.Meets.{fault_of_term}
+use Rattle.coq_syntax.specs.MeetsWhole.{IsRefusedWhole}
+use Rattle.coq_syntax.specs.Answers.{IsRefusal}
 use Rattle.move_parser.specs.declared.cursor.Halt.{Halt}
 use Rattle.move_parser.specs.declared.cursor.Halt.TheVariants.{Unexpected, NoMem}
 use Rattle.move_parser.specs.Marks.{written}

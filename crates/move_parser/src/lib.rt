@@ -9,5 +9,5 @@ mod names;
 mod parsing;
 mod rows;
 
-pub use laws::one_move;
+pub use laws::{law_of_moves, one_move, one_move_answer};
 pub use parsing::parse_move;

@@ -5,25 +5,25 @@ ghost use Rattle.coq_syntax.specs.Forms.{move_of};
 ghost use Rattle.coq_syntax.specs.Grammar.{IsTermOf};
 ghost use Rattle.coq_syntax.specs.Moves.{IsMoveOf, move_fault};
 ghost use Rattle.coq_syntax.specs.Spelled as spelled;
-ghost use Rattle.vernac_parser.specs.Meets.{fault_of_term};
-ghost use Rattle.vernac_parser.specs.Answers.{next_place};
+ghost use Rattle.coq_syntax.specs.Meets.{fault_of_term};
+ghost use Rattle.base_core.specs.Answers.{Gives};
 ghost use Rattle.move_parser.specs.MoveWords.{text_of};
 ghost use Rattle.move_parser.specs.Parts.{IsTail, IsDirection, term_place, IsBehindFirst, IsRewritingOf, fault_of_rewriting};
-ghost use Rattle.move_parser.specs.MoveAnswers.{IsMoveParsed, IsMoveWord, stop_of};
+ghost use Rattle.coq_syntax.specs.Answers.{IsMoveParsed, next_place};
+ghost use Rattle.move_parser.specs.Sentences.{read_move};
+ghost use Rattle.move_parser.specs.MoveAnswers.{IsMoveWord, stop_of};
 
 use crate::cursor::{Cursor, Halt, place_of};
 use crate::mark::Mark;
 use crate::move_word::{MoveWord, word_of_text};
 use crate::rows::plain;
+use base_core::refusal_codes::UNEXPECTED_TOKEN;
 use base_core::{Place, Refusal, Stop};
 use coq_syntax::{
     Direction, MoveForm, MoveTree, SurfaceTerm, Token, TokenKind, TokenList, TokenPlace,
 };
 use std::alloc::Global;
 use vernac_parser::parse_term;
-
-/// The refusal of a token that no move allows where it stands.
-const UNEXPECTED: u16 = 10;
 
 /// Where the first of these tokens stands, or the period at this byte.
 fn next_place(period: u32, rest: &[Token]) -> Place
@@ -46,7 +46,7 @@ fn stop_of(tokens: &TokenList, halt: Halt<'_>) -> Stop
 {
     match halt {
         Halt::Unexpected(rest) => Stop::Refused(Refusal {
-            code: UNEXPECTED,
+            code: UNEXPECTED_TOKEN,
             place: next_place(tokens.period(), rest),
         }),
         Halt::NoMem => Stop::NoMem,
@@ -168,7 +168,8 @@ fn parse_form(
 
 /// The proof move that the list is, whole.
 pub fn parse_move(alloc: Global, tokens: &TokenList) -> Result<MoveTree, Stop>
-    ensures { IsMoveParsed tokens.now result }
+    ensures parsed { IsMoveParsed tokens.now result }
+    ensures value { Gives result (read_move tokens.now) }
 {
     match tokens.as_slice() {
         [first, rest @ ..] => {

@@ -76,7 +76,8 @@ fn step(state: State, byte: u8, rest: &[u8]) -> State
 /// The place behind the first period that ends a sentence.
 pub fn after_period(text: &[u8]) -> Option<usize>
     requires { length text.now < 2 ^ 32 }
-    ensures { MatchOption result (sentence_end text.now ≡ None) (λ i. (i ≤ length text.now) × (0 < i) × (sentence_end text.now ≡ Some (drop i text.now))) }
+    ensures { MatchOption result (sentence_end text.now ≡ None)
+        (λ i. (i ≤ length text.now) × (0 < i) × (sentence_end text.now ≡ Some (drop i text.now))) }
 {
     let mut state = State {
         depth: 0,
@@ -95,7 +96,8 @@ pub fn after_period(text: &[u8]) -> Option<usize>
 /// The place behind the mark that closes a comment, in what follows its first byte.
 pub fn after_comment(text: &[u8]) -> Option<usize>
     requires { length text.now < 2 ^ 32 }
-    ensures { MatchOption result (comment_end text.now ≡ None) (λ i. (i ≤ length text.now) × (comment_end text.now ≡ Some (drop i text.now))) }
+    ensures { MatchOption result (comment_end text.now ≡ None)
+        (λ i. (i ≤ length text.now) × (comment_end text.now ≡ Some (drop i text.now))) }
 {
     let mut state = State {
         depth: 1,

@@ -19,3 +19,5 @@ mod terms;
 mod texts;
 #[cfg(test)]
 mod tokenizing;
+#[cfg(test)]
+mod walks;

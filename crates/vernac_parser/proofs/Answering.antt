@@ -5,12 +5,13 @@ use Rattle.coq_syntax.specs.Trees.{Term}
 use Rattle.coq_syntax.specs.Grammar.{IsTermOf}
 use Rattle.coq_syntax.specs.Limits.{most_nested}
 use Rattle.coq_syntax.specs.Faults.{Fault, term_fault}
-use Rattle.vernac_parser.specs.Parser.{Outcome, unexpected}
+use Rattle.coq_syntax.specs.Refusals.{Outcome, unexpected}
 use Rattle.vernac_parser.specs.Parse.{Whole, whole_term}
-use Rattle.vernac_parser.specs.Refusals.{IsBehind, IsUnexpected, IsLimit, NoTree, AtEnd}
-use Rattle.vernac_parser.specs.Meets.{fault_of_term, IsRead, IsRefused, IsAnswer}
+use Rattle.coq_syntax.specs.Refusals.{IsBehind, IsUnexpected, IsLimit, NoTree, AtEnd}
+use Rattle.coq_syntax.specs.Meets.{fault_of_term, IsRead, IsRefused, IsAnswer}
 use Rattle.vernac_parser.specs.Lawful.{AnswersMeet}
 use Rattle.vernac_parser.proofs.Local
+use Rattle.vernac_parser.proofs.Farther.{faults_farther}
 use Rattle.vernac_parser.proofs.Refused.{is_longest, no_tree, each_limit, faults_behind, Plain}
 use Rattle.vernac_parser.proofs.Viable.{Read, Partial, Passed, Why, Answers}
 use Rattle.vernac_parser.proofs.Shapes.{Down}
@@ -26,6 +27,7 @@ met_read i t rest o r = record {
   parts = r.parts;
   tree = (r.fits.0, r.spelled [] ∙ append-nil r.word);
   sound = r.sound [];
+  each = λ others longer fits assigned. faults_farther i r.word rest t r.parts o others longer fits assigned;
   longest = is_longest i r.word rest r.parts (ap Local.stop o) (subst Plain (sym o) tt);
 }
 

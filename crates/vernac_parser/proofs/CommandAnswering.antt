@@ -4,10 +4,10 @@ use Rattle.coq_syntax.specs.declared.token.Token.{Token}
 use Rattle.coq_syntax.specs.CommandTrees.{Command}
 use Rattle.coq_syntax.specs.Faults.{Fault}
 use Rattle.coq_syntax.specs.Commands.{IsCommandOf, command_fault}
-use Rattle.vernac_parser.specs.Parser.{Outcome, unexpected}
+use Rattle.coq_syntax.specs.Refusals.{Outcome, unexpected}
 use Rattle.vernac_parser.specs.ParseCommand.{whole_command}
-use Rattle.vernac_parser.specs.Refusals.{IsBehind, IsUnexpected, IsLimit, NoTree, AtEnd}
-use Rattle.vernac_parser.specs.MeetsWhole.{IsRefusedWhole, IsWholeAnswer}
+use Rattle.coq_syntax.specs.Refusals.{IsBehind, IsUnexpected, IsLimit, NoTree, AtEnd}
+use Rattle.coq_syntax.specs.MeetsWhole.{IsRefusedWhole, IsWholeAnswer}
 use Rattle.vernac_parser.specs.Lawful.{CommandAnswersMeet}
 use Rattle.vernac_parser.proofs.Viable.{Read, Partial, Passed, Why, Answers}
 use Rattle.vernac_parser.proofs.CommandFaults.{spelled_alone, command_faults, plain, fault_alone}

@@ -16,9 +16,9 @@ use Rattle.vernac_parser.specs.declared.sign.Sign.TheVariants as sign
 use Rattle.vernac_parser.specs.Signs.{is_sign, sign_at, symbol_sign, reserved_sign}
 use Rattle.vernac_parser.specs.Parser.{Outcome, ◌>>=◌, pure, take, many, repeated}
 use Rattle.vernac_parser.specs.Parse.{Whole, Checks, nested, groups, annotation}
-use Rattle.vernac_parser.specs.CommandWords.{word_of_text}
+use Rattle.coq_syntax.specs.CommandWords.{word_of_text}
 use Rattle.vernac_parser.specs.ParseCommand.{begins_constructor, with_constructor, assume, define, state, constructor, barred, first_constructor, constructors, inductive, check, row, ended, command}
-use Rattle.vernac_parser.specs.MeetsWhole.{OneCommand}
+use Rattle.coq_syntax.specs.MeetsWhole.{OneCommand}
 use Rattle.vernac_parser.proofs.SignLaws.{reach}
 use Rattle.vernac_parser.proofs.Checked.{groups_fault_by, annotation_fault_by}
 use Rattle.vernac_parser.proofs.Answered.{answered, step, step_sure, step_last, took, many_more, many_done}

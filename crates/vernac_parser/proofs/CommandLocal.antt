@@ -7,14 +7,14 @@ use Rattle.coq_syntax.specs.declared.command.StatementWord.TheVariants as statem
 use Rattle.coq_syntax.specs.Trees.{Term}
 use Rattle.coq_syntax.specs.CommandTrees.{Constructor, Command, Assume, Define, State, Inductive, Check, Proof, Qed, Defined, Admitted, Aborted}
 use Rattle.vernac_parser.specs.declared.sign.Sign.TheVariants as sign
-use Rattle.vernac_parser.specs.declared.command_word.CommandWord.{CommandWord}
-use Rattle.vernac_parser.specs.declared.command_word.CommandWord.TheVariants as word
+use Rattle.coq_syntax.specs.declared.command_words.CommandWord.{CommandWord}
+use Rattle.coq_syntax.specs.declared.command_words.CommandWord.TheVariants as word
 use Rattle.vernac_parser.specs.Signs.{is_sign, sign_of, sign_at}
 use Rattle.vernac_parser.specs.Parser.{Outcome, Parser, and_then, ◌>>=◌, pure, unexpected, place_of, word_of, take, identifier, repeated}
 use Rattle.vernac_parser.specs.Parse.{Rule, Whole, Checks, nested, groups, annotation}
-use Rattle.vernac_parser.specs.CommandWords.{word_of_text, word_at}
+use Rattle.coq_syntax.specs.CommandWords.{word_of_text, word_at}
 use Rattle.vernac_parser.specs.ParseCommand.{keyword, begins_constructor, with_constructor, assume, define, state, constructor, barred, first_constructor, constructors, inductive, check, by_word, row}
-use Rattle.vernac_parser.proofs.SignLaws.{same_sign}
+use Rattle.vernac_parser.proofs.SignLaws.{same_sign, identifier_by_kind}
 use Rattle.vernac_parser.proofs.Local.{stop, moved, Grade, Same, One, Ended, Agrees, Allowed, Local, local_pure, local_refuse, local_bind, local_choose, local_taken}
 use Rattle.vernac_parser.proofs.Taking.{Taken, Limit, Takes, moves, takes_bind, takes_first, takes_second, local_repeated}
 use Rattle.vernac_parser.proofs.LocalRules.{takes_sign, only, local_when, local_nested, identifier_nested, local_groups, local_annotation}
@@ -120,7 +120,8 @@ module _ (c : Checks) (n : ℕ) where
 
   sign_at_word : (i : List Token) (w : CommandWord) → word_at i ≡ Some w → sign_at i ≡ sign.Identifier
   sign_at_word [] w e = absurd (cc)
-  sign_at_word (t ∷ rest) w e = sign_of_word t (is_sign (sign_of t) sign.Identifier) (word_of_text t.text) w refl e
+  sign_at_word (t ∷ rest) w e =
+      sign_of_word t (is_sign (sign_of t) sign.Identifier) (word_of_text t.text) w refl (ap (λ b. cond b (word_of_text t.text) None) (sym (identifier_by_kind t)) ∙ e)
 
   moves_on : (w : CommandWord) (i : List Token) → word_at i ≡ Some w → stop (word_row w i) ≡ i → ⊥
   moves_on w i e s = by (word_row w i) (takes_sign (λ _. ⊥) place_of sign.Identifier (behind w) refl (local_behind w) i (sign_at_word i w e)) s

@@ -8,7 +8,7 @@ use Rattle.coq_syntax.specs.Commands.{IsCommandOf, command_fault}
 use Rattle.vernac_parser.specs.Parser.{Outcome, and_then, pure, unexpected}
 use Rattle.vernac_parser.specs.Parse.{standard, nested}
 use Rattle.vernac_parser.specs.ParseCommand.{row, ended, command, whole_command}
-use Rattle.vernac_parser.specs.Refusals.{IsBehind, IsAssigned, IsLongest, NoTree}
+use Rattle.coq_syntax.specs.Refusals.{IsBehind, IsAssigned, IsLongest, NoTree}
 use Rattle.vernac_parser.proofs.Answered.{answered}
 use Rattle.vernac_parser.proofs.Local.{stop, moved, Grade, Same, One, Ended, Agrees, Fits, Allowed, Longer, longer, assigned_behind, either}
 use Rattle.vernac_parser.proofs.Refused.{Sound, equal_of, unequal_of}

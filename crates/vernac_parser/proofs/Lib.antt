@@ -3,7 +3,6 @@ pub mod Checked
 pub mod Heads
 pub mod Answered
 pub mod Longer
-pub mod Values
 pub mod Tower
 pub mod Complete
 pub mod Unique
@@ -16,6 +15,7 @@ pub mod Shapes
 pub mod ViableAtoms
 pub mod ViableRules
 pub mod ViableNested
+pub mod Farther
 pub mod Answering
 pub mod CommandFaults
 pub mod CommandComplete
@@ -26,3 +26,4 @@ pub mod CommandAnswering
 pub mod OneAnswer
 pub mod Turns
 pub mod Places
+pub mod Told

@@ -8,7 +8,8 @@ use Rattle.vernac_parser.specs.declared.sign.Sign.{Sign}
 use Rattle.vernac_parser.specs.declared.sign.Sign.TheVariants as sign
 use Rattle.vernac_parser.specs.Signs.{is_sign, sign_of, sign_at}
 use Rattle.vernac_parser.specs.Parser.{Outcome, Parser, and_then, ◌>>=◌, pure, refuse, refuse_as, choose, unexpected, word_of, taken, number}
-use Rattle.vernac_parser.specs.Refusals.{IsAssigned}
+pub use Rattle.coq_syntax.proofs.Splits.{Longer, longer}
+use Rattle.coq_syntax.specs.Refusals.{IsAssigned}
 use Rattle.vernac_parser.proofs.Answered.{took, passed}
 
 -- where a parser stopped
@@ -242,24 +243,7 @@ number_one is_out code (t ∷ rest) = by (is_sign (sign_of t) sign.Number) (is_o
 pub local_number : (is_out : ℕ → Bool) (code : ℕ) → Local (number is_out code)
 local_number is_out code = local_ext (one (λ t. number_of is_out code (is_sign (sign_of t) sign.Number) t)) (number is_out code) (number_one is_out code) (local_one (λ t. number_of is_out code (is_sign (sign_of t) sign.Number) t))
 
--- ---- two ways to part one list
-
--- the second part of one of them is the longer
-pub record Longer (u v u' v' : List Token) : Type 0 where
-  pub first : Token
-  pub back : List Token
-  pub last : v' ≡ first ∷ (back ++ v)
-  pub whole : u ≡ u' ++ first ∷ back
-
-pub longer : (u v u' v' : List Token) → u ++ v ≡ u' ++ v' → length v < length v' → Longer u v u' v'
-longer [] v [] v' e l = absurd (let size : length v ≡ length v' = ap length e in omega arith)
-longer (t ∷ u) v [] v' e l = record { first = t; back = u; last = sym e; whole = refl }
-longer [] v (t ∷ u') v' e l = absurd (let size : length v ≡ suc (length (u' ++ v')) = ap length e in omega (arith, length-append u' v'))
-longer (s ∷ u) v (t ∷ u') v' e l =
-    let head : s ≡ t = cc in
-    let tails : u ++ v ≡ u' ++ v' = cc in
-    let inner : Longer u v u' v' = longer u v u' v' tails l in
-    record { first = inner.first; back = inner.back; last = inner.last; whole = ap (λ w. s ∷ w) inner.whole ∙ ap (λ x. x ∷ (u' ++ inner.first ∷ inner.back)) head }
+-- ---- what stands behind
 
 pub assigned_behind : (back v v' : List Token) → (IsAssigned v → IsAssigned v') → IsAssigned (back ++ v) → IsAssigned (back ++ v')
 assigned_behind [] v v' h = h

@@ -10,12 +10,13 @@ use Rattle.vernac_parser.specs.declared.cursor.Halt.TheVariants.{Refused, NoMem}
 use Rattle.vernac_parser.specs.Parser.{Outcome}
 use Rattle.vernac_parser.specs.Parse.{whole_term}
 use Rattle.vernac_parser.specs.Reads.{counted}
-use Rattle.vernac_parser.specs.Meets.{IsRead, IsRefused, IsAnswer}
+use Rattle.coq_syntax.specs.Meets.{IsRead, IsRefused, IsAnswer}
 use Rattle.coq_syntax.specs.CommandTrees.{Command}
 use Rattle.coq_syntax.specs.Commands.{IsCommandOf, command_fault}
 use Rattle.vernac_parser.specs.ParseCommand.{whole_command}
-use Rattle.vernac_parser.specs.MeetsWhole.{IsRefusedWhole, IsWholeAnswer}
-use Rattle.vernac_parser.specs.Answers.{IsParsed, IsCommandParsed, next_place}
+use Rattle.coq_syntax.specs.MeetsWhole.{IsRefusedWhole, IsWholeAnswer}
+use Rattle.coq_syntax.specs.Answers.{IsCommandParsed, next_place}
+use Rattle.vernac_parser.specs.Answers.{IsParsed}
 use Rattle.vernac_parser.specs.Halts.{IsWithin, stop_of}
 use Rattle.vernac_parser.proofs.Answering.{answers_meet}
 use Rattle.vernac_parser.proofs.CommandAnswering.{answers_meet as commands_meet}

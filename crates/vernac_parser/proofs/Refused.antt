@@ -6,9 +6,10 @@ use Rattle.coq_syntax.specs.Spelled.{spells}
 use Rattle.coq_syntax.specs.Grammar.{level, IsTerm, IsTermOf}
 use Rattle.coq_syntax.specs.Limits.{open_level, most_nested, too_deep}
 use Rattle.coq_syntax.specs.Faults.{Fault, first, nested, value_of, fault, binders_fault, groups_fault, annotation_fault, arguments_fault, term_fault}
-use Rattle.vernac_parser.specs.Parser.{Outcome, unexpected}
+use Rattle.coq_syntax.specs.Refusals.{Outcome, unexpected}
 use Rattle.vernac_parser.specs.Parse.{standard, Whole, whole_term}
-use Rattle.vernac_parser.specs.Refusals.{IsBehind, IsAssigned, IsLongest, NoTree}
+use Rattle.coq_syntax.specs.Refusals.{IsBehind, IsAssigned, IsLongest, NoTree}
+pub use Rattle.coq_syntax.proofs.OneRefusal.{equal_of, unequal_of}
 use Rattle.vernac_parser.proofs.Answered.{answered}
 use Rattle.vernac_parser.proofs.Unique.{complete_term}
 use Rattle.vernac_parser.proofs.Local.{stop, moved, Grade, Same, One, Ended, Agrees, Allowed, Longer, longer, assigned_behind, either}
@@ -115,12 +116,6 @@ no_tree i u v f h o s c t tree =
 pub the_fault : (f : Option Fault) (t : Term) (g : Fault) → answered f t [] ≡ Err g → f ≡ Some g
 the_fault None t g e = cc
 the_fault (Some f) t g e = cc
-
-pub equal_of : (a b : ℕ) → (a == b) ≡ true → a ≡ b
-equal_of a b e = grind arith
-
-pub unequal_of : (a b : ℕ) → (a == b) ≡ false → a ≡ b → ⊥
-unequal_of a b e = grind arith
 
 -- a limit is passed in each tree that begins so
 pub each_limit : (i u w : List Token) (next : Token) (f : Fault) → i ≡ u ++ next ∷ w → whole_term i ≡ Err f → f.rest ≡ next ∷ w → (others : List Token) (t : Term) → IsTermOf (u ++ next ∷ others) t → (f.code ≡ too_deep → IsAssigned others → IsAssigned w) → term_fault t [] ≡ Some (record { code = f.code; rest = next ∷ others })

@@ -1,16 +1,18 @@
 -- What a token with a sign is, and which signs may follow a term.
-use Rattle.std.proofs.Common.{[], ◌≡◌, ℕ, ◌<◌, Bool, true, false, cond, List, codes, bytes_eq, refl, ap, subst, arith}
+use Rattle.std.proofs.Common.{[], ◌∷◌, ◌≡◌, ℕ, ◌<◌, Bool, true, false, cond, List, codes, bytes_eq, refl, sym, ◌∙◌, ap, subst, arith}
 use Rattle.std.proofs.lemmas.Slice.Eq.{bytes_eq-Decides}
-use denote.Enum.Bare.{same_true, true_same, false_same}
+use denote.Enum.Bare.{sameb, same_true, true_same, false_same}
 use Rattle.coq_syntax.specs.declared.token.Token.{Token}
 use Rattle.coq_syntax.specs.declared.token.TokenKind.{TokenKind}
 use Rattle.coq_syntax.specs.declared.token.TokenKind.TheVariants as kind
+use Rattle.coq_syntax.specs.contracts.token.TokenKind.{the_type as kinds}
+use Rattle.coq_syntax.specs.Refusals.{IsAssigned}
 use Rattle.coq_syntax.specs.Spelled.{token, reserved, symbol, identifier, number}
 use Rattle.coq_syntax.specs.declared.words.TokenPlace.{TokenPlace}
 use Rattle.vernac_parser.specs.contracts.sign.Sign.{the_type}
 use Rattle.vernac_parser.specs.declared.sign.Sign.{Sign}
 use Rattle.vernac_parser.specs.declared.sign.Sign.TheVariants as sign
-use Rattle.vernac_parser.specs.Signs.{is_sign, sign_of, sign_by, reserved_sign, symbol_sign, begins_atom}
+use Rattle.vernac_parser.specs.Signs.{is_sign, sign_of, sign_at, sign_by, reserved_sign, symbol_sign, begins_atom}
 use Rattle.vernac_parser.specs.Parser.{place_of, word_of}
 
 -- the kind and the text of a token with this sign
@@ -201,3 +203,23 @@ number_is t e = is_token t kind.Number t.text (written_as t sign.Number e) refl
 
 pub wildcard_is : (t : Token) → is_sign (sign_of t) sign.Wildcard ≡ true → t ≡ token kind.Wildcard (codes "_") (place_of t)
 wildcard_is t e = let w : Written sign.Wildcard t.kind t.text = written_as t sign.Wildcard e in is_token t _ _ w.0 w.1
+
+-- the kind of a token tells whether it is an identifier
+pub identifier_by_kind : (t : Token) → sameb kinds t.kind kind.Identifier ≡ is_sign (sign_of t) sign.Identifier
+identifier_by_kind t = by (is_sign (sign_of t) sign.Identifier) (sameb kinds t.kind kind.Identifier) refl refl
+  where
+    by : (b c : Bool) → is_sign (sign_of t) sign.Identifier ≡ b → sameb kinds t.kind kind.Identifier ≡ c → c ≡ b
+    by true true e f = refl
+    by false false e f = refl
+    by true false e f = absurd (let bad : false ≡ true = sym f ∙ ap (λ k. sameb kinds k kind.Identifier) (written_as t sign.Identifier e) in cc)
+    by false true e f = absurd (let bad : false ≡ true = sym e ∙ ap (λ k. is_sign (sign_by k t.text) sign.Identifier) (same_true kinds tt t.kind kind.Identifier f) in cc)
+
+-- `:=` stands next, by its sign
+pub assigned_sign : (w : List Token) → IsAssigned w → is_sign (sign_at w) sign.Assign ≡ true
+unfolding symbol_sign
+assigned_sign [] k = absurd k
+assigned_sign (t ∷ rest) k = ap (λ x. is_sign (sign_of x) sign.Assign) k.1
+
+pub sign_assigned : (w : List Token) → is_sign (sign_at w) sign.Assign ≡ true → IsAssigned w
+sign_assigned [] e = absurd (let bad : false ≡ true = e in cc)
+sign_assigned (t ∷ rest) e = (place_of t, mark_is sign.Assign t refl e)

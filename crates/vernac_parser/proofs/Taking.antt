@@ -8,9 +8,9 @@ use Rattle.vernac_parser.specs.declared.sign.Sign.TheVariants as sign
 use Rattle.vernac_parser.specs.Signs.{is_sign, sign_of, sign_at}
 use Rattle.vernac_parser.specs.Parser.{Outcome, Parser, and_then, ◌>>=◌, pure, refuse, refuse_as, choose, unexpected, word_of, taken, number, many, repeated}
 use Rattle.vernac_parser.specs.Parse.{assigns}
-use Rattle.vernac_parser.specs.Refusals.{IsAssigned}
+use Rattle.coq_syntax.specs.Refusals.{IsAssigned}
 use Rattle.vernac_parser.proofs.Answered.{took, passed}
-use Rattle.vernac_parser.proofs.SignLaws.{same_sign, is_same}
+use Rattle.vernac_parser.proofs.SignLaws.{same_sign, is_same, assigned_sign, sign_assigned}
 use Rattle.vernac_parser.proofs.Local.{stop, moved, signs_alike, Grade, Same, One, Ended, Agrees, Allowed, Local, local_pure, local_refuse, local_bind, Limited, Moves, local_choose}
 
 -- something is taken, or there is a refusal by a number of these
@@ -148,7 +148,7 @@ module _ {A : Type 0} (p q : Parser A) (lp : Local p) (lq : Local q) (takes : (i
   assigned_still : (b : Bool) (w w' : List Token) → (IsAssigned w' → IsAssigned w) → cond b (is_sign (sign_at w) sign.Assign) false ≡ false → (d : Bool) → is_sign (sign_at w') sign.Assign ≡ d → cond b (is_sign (sign_at w') sign.Assign) false ≡ false
   assigned_still false w w' k e d g = refl
   assigned_still true w w' k e false g = g
-  assigned_still true w w' k e true g = absurd (let bad : true ≡ false = sym (k g) ∙ e in cc)
+  assigned_still true w w' k e true g = absurd (let bad : true ≡ false = sym (assigned_sign w (k (sign_assigned w' g))) ∙ e in cc)
 
   no_new : (t t' : Token) (w w' : List Token) → t ≡ t' → (IsAssigned w' → IsAssigned w) → assigns (t ∷ w) ≡ false → assigns (t' ∷ w') ≡ false
   no_new t t' w w' same k e = ap (λ x. cond (is_sign (sign_of x) sign.Identifier) (is_sign (sign_at w') sign.Assign) false) (sym same) ∙ assigned_still (is_sign (sign_of t) sign.Identifier) w w' k e (is_sign (sign_at w') sign.Assign) refl

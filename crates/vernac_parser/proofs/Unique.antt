@@ -10,7 +10,7 @@ use Rattle.vernac_parser.specs.Signs.{sign_at}
 use Rattle.vernac_parser.specs.Parser.{Outcome}
 use Rattle.vernac_parser.specs.Parse.{Checks, standard, Whole, whole_term}
 use Rattle.vernac_parser.specs.Parse as parse
-use Rattle.vernac_parser.specs.Meets.{OneTree}
+use Rattle.coq_syntax.specs.Meets.{OneTree}
 use Rattle.vernac_parser.proofs.SignLaws.{reach}
 use Rattle.vernac_parser.proofs.Checked.{fault_by, binders_fault_by, groups_fault_by, annotation_fault_by, arguments_fault_by, same_nested, standard_fault}
 use Rattle.vernac_parser.proofs.Answered.{answered}

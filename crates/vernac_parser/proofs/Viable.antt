@@ -10,7 +10,7 @@ use Rattle.vernac_parser.proofs.SignLaws.{mark, is_mark, mark_is, word_is, numbe
 use Rattle.coq_syntax.specs.declared.words.TokenPlace.{TokenPlace}
 use Rattle.coq_syntax.specs.declared.words.Word.{Word}
 use Rattle.coq_syntax.specs.Spelled as spelled
-use Rattle.vernac_parser.specs.Refusals.{IsBehind}
+use Rattle.coq_syntax.specs.Refusals.{IsBehind}
 use Rattle.vernac_parser.proofs.Answered.{took, passed}
 
 -- what a rule reads: which values are good, their tokens, their fault before some tokens, and what may follow them

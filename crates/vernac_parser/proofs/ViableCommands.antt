@@ -15,14 +15,14 @@ use Rattle.coq_syntax.specs.Limits.{most_nested}
 use Rattle.coq_syntax.specs.Faults.{first, annotation_fault, term_fault}
 use Rattle.coq_syntax.specs.Commands.{bar, constructor as spelled_constructor, constructors as spelled_constructors, IsConstructor, IsBarred, AreBarred, AreConstructors, IsCommand}
 use Rattle.vernac_parser.specs.declared.sign.Sign.TheVariants as sign
-use Rattle.vernac_parser.specs.declared.command_word.CommandWord.{CommandWord}
-use Rattle.vernac_parser.specs.declared.command_word.CommandWord.TheVariants as word
+use Rattle.coq_syntax.specs.declared.command_words.CommandWord.{CommandWord}
+use Rattle.coq_syntax.specs.declared.command_words.CommandWord.TheVariants as word
 use Rattle.vernac_parser.specs.Signs.{is_sign, sign_of, sign_at}
 use Rattle.vernac_parser.specs.Parser.{Parser, and_then, pure, place_of, repeated}
 use Rattle.vernac_parser.specs.Parse.{Rule, Whole, standard, nested, groups, annotation}
-use Rattle.vernac_parser.specs.CommandWords.{word_of_text}
+use Rattle.coq_syntax.specs.CommandWords.{word_text, word_of_text}
 use Rattle.vernac_parser.specs.ParseCommand.{begins_constructor, with_constructor, constructor, barred, first_constructor, constructors, by_word, row, ended, command, whole_command}
-use Rattle.vernac_parser.proofs.SignLaws.{is_token, written_as}
+use Rattle.vernac_parser.proofs.SignLaws.{is_token, written_as, identifier_by_kind}
 use Rattle.vernac_parser.proofs.Answered.{took}
 use Rattle.vernac_parser.proofs.Viable.{Shape, Read, Answers, Viable, behind_none, none_first, first_none, answer_pure, answer_refuse, answer_mark, answer_word, answer_part, answer_last, answer_if, viable_repeated, answer_as}
 use Rattle.vernac_parser.proofs.Shapes.{spare, x_word, x_term, x_token, Down, MoreGroups, AnAnnotation}
@@ -103,20 +103,6 @@ viable_constructors i = answer_if SomeConstructors i (begins_constructor (sign_a
     (λ _. answer_pure SomeConstructors i [] i [] refl tt (λ tail. refl) (λ tail. refl) tt)
 
 -- the word of a command
-abbrev word_text : CommandWord → List ℕ
-word_text word.Axiom = codes "Axiom"
-word_text word.Parameter = codes "Parameter"
-word_text word.Definition = codes "Definition"
-word_text word.Theorem = codes "Theorem"
-word_text word.Lemma = codes "Lemma"
-word_text word.Inductive = codes "Inductive"
-word_text word.Check = codes "Check"
-word_text word.Proof = codes "Proof"
-word_text word.Qed = codes "Qed"
-word_text word.Defined = codes "Defined"
-word_text word.Admitted = codes "Admitted"
-word_text word.Abort = codes "Abort"
-
 abbrev IsTextOf : List ℕ → Option CommandWord → Type 0
 IsTextOf text None = Unit {0}
 IsTextOf text (Some w) = text ≡ word_text w
@@ -222,7 +208,9 @@ at_first t rest true (Some w) e k = at_word t rest w e k
 viable_row : Viable Commands (row standard inner)
 unfolding row
 viable_row [] = unknown []
-viable_row (t ∷ rest) = at_first t rest (is_sign (sign_of t) sign.Identifier) (word_of_text t.text) refl (text_of t.text)
+viable_row (t ∷ rest) =
+    subst (λ b. Answers Commands (t ∷ rest) (by_word standard inner (cond b (word_of_text t.text) None) (t ∷ rest))) (sym (identifier_by_kind t))
+    (at_first t rest (is_sign (sign_of t) sign.Identifier) (word_of_text t.text) refl (text_of t.text))
 
 -- a command, and then the end
 abbrev pub WholeCommand : Shape Command

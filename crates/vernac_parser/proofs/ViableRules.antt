@@ -12,7 +12,7 @@ use Rattle.vernac_parser.specs.declared.sign.Sign.TheVariants as sign
 use Rattle.vernac_parser.specs.Signs.{is_sign, sign_at, begins_open}
 use Rattle.vernac_parser.specs.Parser.{Outcome, Parser, and_then, ◌>>=◌, pure, many}
 use Rattle.vernac_parser.specs.Parse.{Rule, Whole, Right85, Right80, Right75, standard, binder_name, names, OneGroup, with_group, application, group, groups, binders, annotation, forall_form, fun_form, let_form, equal_behind, t70, operand, t75, and_behind, t80, or_behind, t85, arrow_behind, t99, open_form, term, by_rule}
-use Rattle.vernac_parser.specs.Refusals.{IsBehind}
+use Rattle.coq_syntax.specs.Refusals.{IsBehind}
 use Rattle.vernac_parser.proofs.Answered.{took, passed}
 use Rattle.vernac_parser.proofs.Tower.{not_the_open_level}
 use Rattle.vernac_parser.proofs.Viable.{Read, Answers, Viable, behind_first, behind_none, behind_nested, none_first, first_none, answer_pure, answer_mark, answer_part, answer_last, answer_if, viable_many, answer_as}

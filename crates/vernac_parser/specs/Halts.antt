@@ -5,7 +5,7 @@ use Rattle.base_core.specs.declared.refusals.Stop.TheVariants.{Refused, NoMem}
 use Rattle.coq_syntax.specs.Tokens.{Tokens}
 use Rattle.vernac_parser.specs.declared.cursor.Halt.{Halt}
 use Rattle.vernac_parser.specs.declared.cursor.Halt.TheVariants as halt
-use Rattle.vernac_parser.specs.Answers.{next_place}
+use Rattle.coq_syntax.specs.Answers.{next_place}
 
 -- so many tokens of the list are left where it halted
 abbrev pub IsWithin : Halt → ℕ → Type 0

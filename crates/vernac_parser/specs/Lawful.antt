@@ -4,8 +4,8 @@ use Rattle.coq_syntax.specs.declared.token.Token.{Token}
 use Rattle.coq_syntax.specs.Commands.{IsCommandOf, command_fault}
 use Rattle.vernac_parser.specs.Parse.{whole_term}
 use Rattle.vernac_parser.specs.ParseCommand.{whole_command}
-use Rattle.vernac_parser.specs.Meets.{IsAnswer}
-use Rattle.vernac_parser.specs.MeetsWhole.{IsWholeAnswer}
+use Rattle.coq_syntax.specs.Meets.{IsAnswer}
+use Rattle.coq_syntax.specs.MeetsWhole.{IsWholeAnswer}
 
 -- those of terms
 abbrev pub AnswersMeet : Type 0

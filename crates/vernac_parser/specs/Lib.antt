@@ -1,15 +1,11 @@
 pub mod Signs
-pub mod Refusals
 pub mod Parser
 pub mod Parse
 pub mod Numbers
 pub mod Reads
 pub mod Views
 pub mod Nests
-pub mod Meets
-pub mod CommandWords
 pub mod ParseCommand
-pub mod MeetsWhole
 pub mod Lawful
 pub mod Halts
 pub mod Answers

@@ -1,21 +1,24 @@
 -- The rules of the grammar of commands, each as a parser. A command's terms stand by themselves: they are read by `inner`.
-use Rattle.std.specs.Prelude.{Bool, true, false, Option, None, Some, Ok, List, [], ◌∷◌}
+use Rattle.std.specs.Prelude.{Bool, true, false, Option, None, Some, Result, Ok, List, [], ◌∷◌}
 use Rattle.coq_syntax.specs.declared.words.TokenPlace.{TokenPlace}
 use Rattle.coq_syntax.specs.declared.command.AssumptionWord.{AssumptionWord}
 use Rattle.coq_syntax.specs.declared.command.AssumptionWord.TheVariants as assumption
 use Rattle.coq_syntax.specs.declared.command.StatementWord.{StatementWord}
 use Rattle.coq_syntax.specs.declared.command.StatementWord.TheVariants as statement
+use Rattle.base_core.specs.declared.refusals.Stop.{Stop}
+use Rattle.coq_syntax.specs.Tokens.{Tokens}
+use Rattle.coq_syntax.specs.Answers.{told}
 use Rattle.coq_syntax.specs.Trees.{Term}
 use Rattle.coq_syntax.specs.CommandTrees.{Constructor, Command, Assume, Define, State, Inductive, Check, Proof, Qed, Defined, Admitted, Aborted}
 use Rattle.coq_syntax.specs.Limits.{most_nested}
 use Rattle.vernac_parser.specs.declared.sign.Sign.{Sign}
 use Rattle.vernac_parser.specs.declared.sign.Sign.TheVariants as sign
-use Rattle.vernac_parser.specs.declared.command_word.CommandWord.{CommandWord}
-use Rattle.vernac_parser.specs.declared.command_word.CommandWord.TheVariants as word
+use Rattle.coq_syntax.specs.declared.command_words.CommandWord.{CommandWord}
+use Rattle.coq_syntax.specs.declared.command_words.CommandWord.TheVariants as word
 use Rattle.vernac_parser.specs.Signs.{is_sign}
 use Rattle.vernac_parser.specs.Parser.{Parser, ◌>>=◌, pure, ◌<$>◌, refuse, choose, when, take, identifier, repeated}
 use Rattle.vernac_parser.specs.Parse.{Rule, Whole, Checks, standard, nested, groups, annotation}
-use Rattle.vernac_parser.specs.CommandWords.{word_at}
+use Rattle.coq_syntax.specs.CommandWords.{word_at}
 
 -- the word of a command, whichever
 abbrev pub keyword : Parser TokenPlace
@@ -137,3 +140,7 @@ module _ (checks : Checks) (inner : Rule → Parser Term) where
 -- a command of a token list
 abbrev pub whole_command : Parser Command
 whole_command = command standard (nested standard most_nested)
+
+-- the command that the tokens are, or the leftmost refusal with its place
+abbrev pub read_command : Tokens → Result Command Stop
+read_command tokens = told tokens (whole_command tokens.items)

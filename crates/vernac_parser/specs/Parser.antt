@@ -6,12 +6,8 @@ use Rattle.coq_syntax.specs.declared.words.Word.{Word}
 use Rattle.coq_syntax.specs.Faults.{Fault, value_of}
 use Rattle.vernac_parser.specs.declared.sign.Sign.{Sign}
 use Rattle.vernac_parser.specs.declared.sign.Sign.TheVariants as sign
-pub use Rattle.vernac_parser.specs.Refusals.{unexpected}
+pub use Rattle.coq_syntax.specs.Refusals.{Outcome, unexpected}
 use Rattle.vernac_parser.specs.Signs.{is_sign, sign_of, sign_at}
-
--- what was read and the tokens behind it, or a refusal
-abbrev pub Outcome : Type 0 → Type 0
-Outcome A = Result (A × List Token) Fault
 
 abbrev pub Parser : Type 0 → Type 0
 Parser A = List Token → Outcome A

@@ -7,13 +7,13 @@ ghost use Rattle.vernac_parser.specs.Views.{with_limit};
 ghost use Rattle.vernac_parser.specs.Reads.{Reads, ReadsAs};
 ghost use Rattle.vernac_parser.specs.Nests.{Nests};
 
-use crate::command_word::CommandWord;
 use crate::cursor::{Halt, Tokens};
 use crate::grammar::Grammar;
 use crate::rule::Rule;
 use crate::sign::Sign;
 use coq_syntax::{
-    AssumptionWord, Command, CommandForm, Constructor, StatementWord, SurfaceTerm, TokenPlace,
+    AssumptionWord, Command, CommandForm, CommandWord, Constructor, StatementWord, SurfaceTerm,
+    TokenPlace,
 };
 use std::alloc::Global;
 
@@ -134,7 +134,8 @@ impl<F: Fn(Global, &mut Tokens<'_>, usize, Rule) -> Result<SurfaceTerm, Halt>> G
     #[tactic(auto, unfolding(crate::specs::ParseCommand::constructors))]
     fn constructors(&self, tokens: &mut Tokens<'_>) -> Result<Vec<Constructor>, Halt>
         requires { Nests self.now.limit (F.pre self.now.nested) (F.post self.now.nested) }
-        ensures { ReadsAs (λ v. constructors_of v.items) (with_limit self.now.limit spec.constructors tokens.old) result tokens.new }
+        ensures { ReadsAs
+            (λ v. constructors_of v.items) (with_limit self.now.limit spec.constructors tokens.old) result tokens.new }
     {
         let mut constructors = Vec::new(self.alloc);
         if !begins_constructor(tokens.sign()) {

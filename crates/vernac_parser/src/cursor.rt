@@ -4,25 +4,22 @@ ghost use Rattle.std.specs.Prelude.{◌≡◌, length, IfOk};
 ghost use Rattle.vernac_parser.specs.Signs.{is_sign, sign_at};
 ghost use Rattle.vernac_parser.specs.Parser as spec;
 ghost use Rattle.vernac_parser.specs.Parse.{assigns};
-ghost use Rattle.vernac_parser.specs.CommandWords.{word_at};
+ghost use Rattle.coq_syntax.specs.CommandWords.{word_at};
 ghost use Rattle.vernac_parser.specs.ParseCommand.{ended};
 ghost use Rattle.vernac_parser.specs.Numbers as number;
 ghost use Rattle.vernac_parser.specs.Reads.{Reads, ReadsAs};
 
-use crate::command_word::{CommandWord, word_of_text};
 use crate::number::NumberUse;
 use crate::sign;
 use crate::sign::Sign;
+use base_core::refusal_codes::UNEXPECTED_TOKEN;
 use base_core::{NoMem, Text};
-use coq_syntax::{Token, TokenPlace, Word};
+use coq_syntax::{CommandWord, Token, TokenPlace, Word, command_word};
 use std::alloc::{AllocFailed, Global};
 use std::marker::Model;
 
-/// The refusal of a token that no rule takes here.
-pub const UNEXPECTED: u16 = 10;
-
 /// Why no tree was read.
-#[derive(Clone, Copy, Debug, PartialEq, Eq)]
+#[derive(Clone, Copy, PartialEq, Eq)]
 pub enum Halt {
     Refused {
         code: u16,
@@ -135,7 +132,7 @@ impl<'a> Tokens<'a> {
     pub fn refuse(&self) -> Halt
         ensures { result ≡ Halt.Refused spec.unexpected (length self.now) }
     {
-        self.refuse_as(UNEXPECTED)
+        self.refuse_as(UNEXPECTED_TOKEN)
     }
 
     /// Takes the next token, which has to be this one.
@@ -206,12 +203,7 @@ impl<'a> Tokens<'a> {
     pub fn command_word(&self) -> Option<CommandWord>
         ensures { result ≡ word_at self.now }
     {
-        match self.rest {
-            [first, ..] if sign::is_sign(self.sign, Sign::Identifier) => {
-                word_of_text(first.text.as_str())
-            }
-            _ => None,
-        }
+        command_word(self.rest)
     }
 
     /// The end, where no token is left.

@@ -9,14 +9,13 @@ ghost use Rattle.vernac_parser.specs.Nests.{Nests};
 use crate::cursor::{Halt, Tokens};
 use crate::rule::Rule;
 use crate::sign::begins_term;
+use base_core::SYNTAX_NESTING_LIMIT;
+use base_core::refusal_codes::NESTED_TOO_DEEP;
 use coq_syntax::SurfaceTerm;
 use std::alloc::Global;
 
-/// The refusal of a rule that is nested too deep.
-const TOO_DEEP: u16 = 11;
-
 /// So many rules may nest.
-pub const MOST_NESTED: usize = 200;
+pub const MOST_NESTED: usize = SYNTAX_NESTING_LIMIT as usize;
 
 #[derive(Clone, Copy)]
 pub struct Grammar<F> {
@@ -75,7 +74,7 @@ fn too_deep(tokens: &Tokens<'_>, rule: Rule) -> Halt
     ensures { Reads (within 0 rule tokens.now) (Err result) tokens.now }
 {
     if begins_term(tokens.sign()) {
-        return tokens.refuse_as(TOO_DEEP);
+        return tokens.refuse_as(NESTED_TOO_DEEP);
     }
     tokens.refuse()
 }

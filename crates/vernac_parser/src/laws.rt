@@ -1,7 +1,13 @@
 //! Laws of the grammar and of the rules, for the proofs above this crate.
 
-ghost use Rattle.vernac_parser.specs.Meets.{OneTree, OneAnswer};
-ghost use Rattle.vernac_parser.specs.MeetsWhole.{OneCommand, OneCommandAnswer};
+ghost use Rattle.std.specs.Prelude.{ℕ, Err};
+ghost use Rattle.base_core.specs.declared.refusals.Refusal.{Refusal};
+ghost use Rattle.base_core.specs.declared.refusals.Stop.TheVariants.{Refused};
+ghost use Rattle.coq_syntax.specs.Tokens.{Tokens};
+ghost use Rattle.coq_syntax.specs.Answers.{IsPlaceIn};
+ghost use Rattle.vernac_parser.specs.Answers.{IsParsed};
+ghost use Rattle.coq_syntax.specs.Meets.{OneTree, OneAnswer};
+ghost use Rattle.coq_syntax.specs.MeetsWhole.{OneCommand, OneCommandAnswer};
 ghost use Rattle.vernac_parser.specs.Lawful.{AnswersMeet, CommandAnswersMeet};
 
 /// A token list has at most one tree.
@@ -32,4 +38,9 @@ pub fn one_answer()
 /// What is said of the answer to a command's tokens leaves no choice.
 pub fn one_command_answer()
     ensures { OneCommandAnswer }
+{}
+
+/// A refusal of a term's tokens stands at one of them, or at the period.
+pub fn law_of_term_places()
+    ensures { (l : Tokens) (at : ℕ) (r : Refusal) → IsParsed l at (Err (Refused r)) → IsPlaceIn l r.place }
 {}

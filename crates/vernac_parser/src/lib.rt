@@ -3,7 +3,6 @@
 
 mod atoms;
 mod binders;
-mod command_word;
 mod commands;
 mod cursor;
 mod grammar;
@@ -15,6 +14,7 @@ mod rule;
 mod sign;
 
 pub use laws::{
-    law_of_answers, law_of_commands, one_answer, one_command, one_command_answer, one_tree,
+    law_of_answers, law_of_commands, law_of_term_places, one_answer, one_command,
+    one_command_answer, one_tree,
 };
 pub use parsing::{Parsed, parse_command, parse_term};

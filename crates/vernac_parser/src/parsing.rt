@@ -1,7 +1,10 @@
 //! Terms and commands of a token list.
 
 ghost use Rattle.std.specs.Prelude.{◌≡◌, ◌≤◌, ◌-◌, length, drop};
-ghost use Rattle.vernac_parser.specs.Answers.{IsParsed, IsCommandParsed, next_place};
+ghost use Rattle.coq_syntax.specs.Answers.{IsCommandParsed, next_place};
+ghost use Rattle.base_core.specs.Answers.{Gives};
+ghost use Rattle.vernac_parser.specs.Answers.{IsParsed, read_term};
+ghost use Rattle.vernac_parser.specs.ParseCommand.{read_command};
 ghost use Rattle.vernac_parser.specs.Halts.{IsWithin, stop_of};
 
 use crate::cursor::{Halt, Tokens};
@@ -53,7 +56,8 @@ fn stop_of(tokens: &TokenList, halt: Halt) -> Stop
 /// refused there where the tokens before that one are no term. The time is linear in the tokens from there.
 pub fn parse_term(alloc: Global, tokens: &TokenList, at: usize) -> Result<Parsed, Stop>
     requires { at ≤ length tokens.now.items }
-    ensures { IsParsed tokens.now at result }
+    ensures parsed { IsParsed tokens.now at result }
+    ensures value { Gives result (read_term tokens.now at) }
 {
     let items = tokens.as_slice();
     let mut rest = Tokens::new(&items[at..]);
@@ -68,7 +72,8 @@ pub fn parse_term(alloc: Global, tokens: &TokenList, at: usize) -> Result<Parsed
 
 /// The command that the list is, whole. The time is linear in the tokens.
 pub fn parse_command(alloc: Global, tokens: &TokenList) -> Result<Command, Stop>
-    ensures { IsCommandParsed tokens.now result }
+    ensures parsed { IsCommandParsed tokens.now result }
+    ensures value { Gives result (read_command tokens.now) }
 {
     let grammar = Grammar {
         alloc,

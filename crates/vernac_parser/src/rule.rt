@@ -1,6 +1,6 @@
 /// The rules that count as nested where they stand: a whole term, and the operand behind an operator unless it is an
 /// open form.
-#[derive(Clone, Copy, Debug, PartialEq, Eq)]
+#[derive(Clone, Copy, PartialEq, Eq)]
 pub enum Rule {
     Whole,
     /// Behind `\/`.

@@ -6,7 +6,7 @@ ghost use Rattle.vernac_parser.specs.Signs as spec;
 use coq_syntax::{Token, TokenKind};
 
 /// What a token is to the grammar: its kind and, of reserved words and symbols, which.
-#[derive(Clone, Copy, Debug, PartialEq, Eq)]
+#[derive(Clone, Copy, PartialEq, Eq)]
 pub enum Sign {
     Identifier,
     Wildcard,

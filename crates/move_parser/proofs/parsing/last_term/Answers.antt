@@ -9,5 +9,5 @@ returns-in_default c =
     let next = c.in_ok-parsed.parsed.next in
     let left : List Token = take (length c.as_slice.result.now - next) (drop next c.as_slice.result.now) in
     let same : left ≡ drop next c.args.tokens.now.items = ap (λ l. take (length l - next) (drop next l)) c.as_slice.ensures ∙ from_place next c.args.tokens.now.items in
-    term_stopped_behind (λ (t : Term). t) c.args.tokens.now c.args.at (drop next c.args.tokens.now.items) left c.in_ok-parsed.parsed.tree c.stop_of.result c.in_ok-parsed.ensures.1 same
+    term_stopped_behind (λ (t : Term). t) c.args.tokens.now c.args.at (drop next c.args.tokens.now.items) left c.in_ok-parsed.parsed.tree c.stop_of.result c.in_ok-parsed.ensures.parsed.1 same
     (λ none. let size : length left ≡ 0 = ap length (same ∙ none) in omega (arith, c.in_default.len_at_least, size)) c.stop_of.ensures

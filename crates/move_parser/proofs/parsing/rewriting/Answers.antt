@@ -4,7 +4,7 @@ use Rattle.coq_syntax.specs.declared.moves.Direction.{Direction}
 use Rattle.coq_syntax.specs.declared.tree.SurfaceTerm.{SurfaceTerm}
 use Rattle.coq_syntax.specs.Trees.{Term}
 use Rattle.coq_syntax.specs.Grammar.{IsTermOf}
-use Rattle.vernac_parser.specs.Meets.{fault_of_term}
+use Rattle.coq_syntax.specs.Meets.{fault_of_term}
 use Rattle.move_parser.specs.Parts.{IsTail}
 use Rattle.move_parser.proofs.Terms.{rewriting_stopped}
 use Rattle.move_parser.proofs.parsing.rewriting.Goals as goal

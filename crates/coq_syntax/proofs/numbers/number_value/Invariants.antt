@@ -1,6 +1,6 @@
 use Rattle.std.proofs.Common.{◌≡◌, min, ◌≤◌, drop}
 use Rattle.coq_syntax.specs.Faults.{digits_value}
-use Rattle.vernac_parser.proofs.number.value_of.Given as goal
+use Rattle.coq_syntax.proofs.numbers.number_value.Given as goal
 
 abbrev pub invariant-loop-digit : goal.invariant-loop-digit
 invariant-loop-digit l = record {

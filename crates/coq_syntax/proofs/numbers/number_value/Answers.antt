@@ -1,6 +1,6 @@
 use Rattle.std.proofs.Common.{◌∙◌, arith}
-use Rattle.vernac_parser.proofs.Values.{read_digit}
-use Rattle.vernac_parser.proofs.number.value_of.Goals as goal
+use Rattle.coq_syntax.proofs.Values.{read_digit}
+use Rattle.coq_syntax.proofs.numbers.number_value.Goals as goal
 
 pub loop-digit-preserved : goal.loop-digit-preserved
 loop-digit-preserved c = record {

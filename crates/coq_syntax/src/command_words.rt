@@ -1,8 +1,11 @@
 //! The words that commands begin with.
 
 ghost use Rattle.std.specs.Prelude.{◌≡◌};
-ghost use Rattle.vernac_parser.specs.CommandWords as spec;
+ghost use Rattle.coq_syntax.specs.CommandWords as spec;
 
+use crate::{Token, TokenKind, TokenList};
+
+/// The word of a command.
 #[derive(Clone, Copy, Debug, PartialEq, Eq)]
 pub enum CommandWord {
     Axiom,
@@ -20,7 +23,7 @@ pub enum CommandWord {
 }
 
 #[tactic(auto, unfolding(crate::specs::CommandWords::word_of_text))]
-pub fn word_of_text(text: &str) -> Option<CommandWord>
+fn word_of_text(text: &str) -> Option<CommandWord>
     ensures { result ≡ spec.word_of_text text.now }
 {
     match text {
@@ -38,4 +41,21 @@ pub fn word_of_text(text: &str) -> Option<CommandWord>
         "Abort" => Some(CommandWord::Abort),
         _ => None,
     }
+}
+
+/// The command's word with which these tokens begin.
+pub fn command_word(tokens: &[Token]) -> Option<CommandWord>
+    ensures { result ≡ spec.word_at tokens.now }
+{
+    match tokens {
+        [first, ..] if first.kind == TokenKind::Identifier => word_of_text(first.text.as_str()),
+        _ => None,
+    }
+}
+
+/// Whether a sentence with these tokens is read as a command; else it is read as a proof move.
+pub fn is_command(tokens: &TokenList) -> bool
+    ensures { result ≡ spec.is_command tokens.now.items }
+{
+    command_word(tokens.as_slice()).is_some()
 }
