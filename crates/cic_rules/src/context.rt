@@ -1,3 +1,4 @@
+//! Contexts: hypotheses, the newest first.
 ghost use Rattle.std.specs.Prelude.{◌≡◌, ◌^◌, ◌≤◌, ◌<◌, [], length, slice_get, IfOk};
 ghost use Rattle.std.specs.Option.{option_copied};
 ghost use Rattle.base_core.specs.Answers.{Gives};

@@ -1,3 +1,4 @@
+//! Declarations, as they are asked for.
 ghost use Rattle.std.specs.Prelude.{◌≡◌, ◌++◌, [], ◌∷◌, None, OnOk};
 ghost use Rattle.cic_rules.specs.Contexts.{AreParams};
 

@@ -1,3 +1,4 @@
+//! Entries of an environment.
 ghost use Rattle.std.specs.Prelude.{◌≡◌, ◌++◌, [], ◌∷◌, OnOk};
 
 use base_core::{NoMem, NumberList, Text};

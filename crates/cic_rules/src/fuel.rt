@@ -1,3 +1,4 @@
+//! Fuel: units of work, and how deep judgements stand in one another.
 ghost use Rattle.std.specs.Prelude.{◌≡◌, ◌-◌, ◌≤◌, ◌<◌, ◌↔◌, IsTrue};
 ghost use Rattle.cic_rules.specs.Fuel.{full, nested, left, calls_left, IsSpentOf, IsFuel, NESTING_LIMIT};
 

@@ -1,3 +1,4 @@
+//! The judgements as traits: what each call of the kernel answers.
 ghost use Rattle.std.specs.Prelude.{length, IfOk};
 ghost use Rattle.cic_rules.specs.Fuel.{left, IsSpentOf};
 ghost use Rattle.cic_rules.specs.Scopes.{AreNames, UsesOnly};

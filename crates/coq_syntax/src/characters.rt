@@ -1,3 +1,4 @@
+//! Classes of characters.
 ghost use Rattle.std.specs.Prelude.{◌≡◌};
 ghost use Rattle.sentence_split.specs.Items.{is_blank, begins, opens, closes};
 ghost use Rattle.coq_syntax.specs.Characters.{starts_word, continues_word, is_digit, is_mark, is_pair, begins_pair, is_wildcard, is_reserved};

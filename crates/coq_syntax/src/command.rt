@@ -1,3 +1,4 @@
+//! Trees of commands.
 ghost use Rattle.std.specs.Prelude.{◌≡◌};
 ghost use Rattle.coq_syntax.specs.Forms.{command_of};
 

@@ -1,3 +1,4 @@
+//! Where comments end.
 ghost use Rattle.std.specs.Prelude.{◌≡◌, ◌+◌, ◌^◌, ◌<◌, ◌≤◌, Some, None, drop, length, MatchOption};
 ghost use Rattle.sentence_split.specs.Scan.{counted_step, step, comment_end};
 ghost use Rattle.coq_syntax.specs.Scan.{as_scanned, scan_state};

@@ -1,3 +1,4 @@
+//! Trees of proof moves.
 ghost use Rattle.std.specs.Prelude.{◌≡◌};
 ghost use Rattle.coq_syntax.specs.Forms.{move_of};
 

@@ -1,3 +1,4 @@
+//! Blanks, comments and tokens of a sentence, one after another.
 ghost use Rattle.std.specs.Prelude.{◌≡◌, ◌==◌, ◌+◌, ◌^◌, ◌<◌, ◌≤◌, None, drop, length, slice_index, false, not};
 ghost use Rattle.std.specs.List.{prefix_len};
 ghost use Rattle.sentence_split.specs.Scan.{comment_end};

@@ -1,3 +1,4 @@
+//! How many comment marks the rest of a sentence can close, from its end.
 ghost use Rattle.std.specs.Prelude.{◌≡◌, ◌^◌, ◌<◌, length, IfOk};
 ghost use Rattle.coq_syntax.specs.Scan.{rooms_before, AreMarks};
 

@@ -1,3 +1,4 @@
+//! Tokens, and lists of them.
 ghost use Rattle.std.specs.Prelude.{◌≡◌};
 
 use base_core::Text;

@@ -1,3 +1,4 @@
+//! From a sentence to its tokens.
 ghost use Rattle.std.specs.Prelude.{◌≡◌, ◌^◌, ◌<◌, length, IfOk, encode_utf8_all};
 ghost use Rattle.std.specs.Str.{chars};
 ghost use Rattle.base_core.specs.Fit.{EndsInPeriod};

@@ -1,3 +1,4 @@
+//! Trees of terms, as they are written.
 ghost use Rattle.std.specs.Prelude.{◌≡◌};
 ghost use Rattle.coq_syntax.specs.Nodes.{tree_of};
 

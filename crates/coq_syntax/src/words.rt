@@ -1,3 +1,4 @@
+//! Words inside trees: the places of tokens, and identifiers and numbers as they are written.
 use base_core::Text;
 
 /// Where a token stands: from one byte of its sentence up to another.

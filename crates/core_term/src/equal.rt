@@ -1,3 +1,4 @@
+//! Equality of terms, the names of binders aside.
 ghost use Rattle.std.specs.Prelude.{◌≡◌};
 ghost use Rattle.core_term.specs.Tree.{same_tree};
 

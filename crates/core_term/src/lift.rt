@@ -1,3 +1,4 @@
+//! Lifting: the free variables of a term moved over binders.
 ghost use Rattle.std.specs.Prelude.{◌≡◌};
 ghost use Rattle.core_term.specs.Tree.{IsNumbered, free_bound};
 ghost use Rattle.core_term.specs.Places.{lift_of};

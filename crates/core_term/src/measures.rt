@@ -1,3 +1,4 @@
+//! Size, depth and the bound on free variables of a node.
 ghost use Rattle.std.specs.Prelude.{◌≡◌, ◌+◌, ◌-◌, ◌^◌, ◌<◌, max};
 
 /// A term's count of nodes, its depth, and the least number above each of its free variables.

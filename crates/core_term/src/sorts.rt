@@ -1,3 +1,4 @@
+//! Sorts, their order, and the sort of a product.
 ghost use Rattle.std.specs.Prelude.{◌≡◌};
 ghost use Rattle.core_term.specs.Sorts.{sort_below, sort_of_product};
 

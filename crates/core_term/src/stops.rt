@@ -1,3 +1,4 @@
+//! Why no term is made.
 use base_core::{Limit, NoMem, Stop};
 use std::alloc::{AllocError, AllocFailed};
 use thiserror::Error;

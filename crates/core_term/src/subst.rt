@@ -1,3 +1,4 @@
+//! Substitution of a value for a variable.
 ghost use Rattle.std.specs.Prelude.{◌≡◌, ◌≤◌};
 ghost use Rattle.core_term.specs.Tree.{IsNumbered, size_of};
 ghost use Rattle.core_term.specs.Places.{lift_of, subst_of, occurrences};

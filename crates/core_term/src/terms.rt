@@ -1,3 +1,4 @@
+//! Terms, and the making of each kind of node.
 ghost use Rattle.std.specs.Prelude.{◌≡◌, ◌≤◌, ◌^◌, IfOk};
 ghost use Rattle.core_term.specs.Sorts.{IsSort};
 ghost use Rattle.core_term.specs.Tree.{Var, Sorted, Constant, Prod, Lam, LetIn, App, size_of, depth_of, free_bound, IsTerm, IsNumbered, IsLevelled};

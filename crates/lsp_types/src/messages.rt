@@ -1,3 +1,4 @@
+//! Messages, as they are decoded.
 use base_core::{ChangeList, NoMem, Position, Text};
 use thiserror::Error;
 

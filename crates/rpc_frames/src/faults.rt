@@ -1,3 +1,4 @@
+//! What is wrong with bytes that are no frames.
 use base_core::NoMem;
 use thiserror::Error;
 

@@ -1,3 +1,4 @@
+//! Frames out of bytes that come in pieces.
 ghost use Rattle.std.specs.Prelude.{◌≡◌, ◌++◌, ◌<◌, ◌≤◌, [], None, ℕ, List, length, drop, OnOk, OnErr, IfOk, IfSome};
 ghost use Rattle.rpc_frames.specs.Frames.{header, Whole};
 ghost use Rattle.rpc_frames.specs.Stages.{IsStage, IsSettled, KeepsFault, stage_fault};

@@ -1,3 +1,4 @@
+//! The frame of a body.
 ghost use Rattle.std.specs.Prelude.{◌≡◌, IfOk};
 ghost use Rattle.rpc_frames.specs.Frames.{framed};
 

@@ -1,3 +1,4 @@
+//! Classes of bytes.
 ghost use Rattle.std.specs.Prelude.{◌≡◌};
 ghost use Rattle.sentence_split.specs.Items.{is_blank, begins, opens, closes};
 ghost use Rattle.sentence_split.specs.Split.{is_bullet, is_ended};

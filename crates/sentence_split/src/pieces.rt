@@ -1,3 +1,4 @@
+//! Sentences and gaps, one after another.
 ghost use Rattle.std.specs.Prelude.{◌≡◌, ◌==◌, ◌+◌, ◌-◌, ◌^◌, ◌<◌, ◌≤◌, Some, None, drop, length, slice_index};
 ghost use Rattle.std.specs.List.{prefix_len};
 ghost use Rattle.sentence_split.specs.Sentences.{plain_piece, comment_piece, first_piece};

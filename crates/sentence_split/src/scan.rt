@@ -1,3 +1,4 @@
+//! The scan for the end of a comment or a sentence.
 ghost use Rattle.std.specs.Prelude.{◌≡◌, ◌+◌, ◌^◌, ◌<◌, ◌≤◌, Some, None, drop, length, MatchOption};
 ghost use Rattle.sentence_split.specs.Scan.{counted_step, step, sentence_end, comment_end};
 

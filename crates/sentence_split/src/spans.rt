@@ -1,3 +1,4 @@
+//! Sentences by their places.
 ghost use Rattle.std.specs.Prelude.{◌≡◌, ◌++◌, [], ◌∷◌, OnOk};
 
 use base_core::{Kind, NoMem};

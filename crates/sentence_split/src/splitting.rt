@@ -1,3 +1,4 @@
+//! From a text to its sentences.
 ghost use Rattle.std.specs.Prelude.{◌≡◌, ℕ, List, ◌^◌, ◌<◌, length, All, IfOk};
 ghost use Rattle.sentence_split.specs.declared.spans.Span.{Span};
 ghost use Rattle.sentence_split.specs.Sentences.{sentences};

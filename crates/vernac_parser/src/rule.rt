@@ -1,3 +1,5 @@
+//! The rules that count as nested.
+
 /// The rules that count as nested where they stand: a whole term, and the operand behind an operator unless it is an
 /// open form.
 #[derive(Clone, Copy, PartialEq, Eq)]
