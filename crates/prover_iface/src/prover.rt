@@ -61,7 +61,8 @@ pub trait Prover: Drop {
         requires fit { IsFit kind text.now }
         requires short { length text.now < 2 ^ 32 }
         ensures answer { IfOk result (Answers meaning means (meaning state.now) (sentence kind text.now) units) }
-        ensures work { Works (means.cost (meaning state.now) (sentence kind text.now)) units steps.old steps.new result };
+        ensures work { Works (means.cost (meaning state.now) (sentence kind text.now)) units
+            steps.old steps.new result };
 
     /// The number of the sentence that began the proof under way.
     fn left_open(&self, state: &Self::State) -> Option<u32>
