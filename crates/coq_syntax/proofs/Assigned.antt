@@ -6,12 +6,9 @@ use Rattle.coq_syntax.specs.declared.token.Token.{Token}
 use Rattle.coq_syntax.specs.declared.token.TokenKind.{TokenKind}
 use Rattle.coq_syntax.specs.declared.token.TokenKind.TheVariants.{Symbol}
 use Rattle.coq_syntax.specs.contracts.token.TokenKind.{the_type}
-use Rattle.coq_syntax.specs.declared.words.TokenPlace.{TokenPlace}
 use Rattle.coq_syntax.specs.Spelled.{token, symbol}
+use Rattle.coq_syntax.specs.Readings.{place_of}
 use Rattle.coq_syntax.specs.Refusals.{IsAssigned}
-
-abbrev place_of : Token → TokenPlace
-place_of t = record { from = t.from; to = t.to }
 
 made : TokenKind → List ℕ → Token → Token
 made kind text t = token kind text (place_of t)

@@ -27,3 +27,4 @@ pub mod CommandWords
 pub mod Levels
 pub mod BinderRows
 pub mod Counts
+pub mod Readings

@@ -10,6 +10,7 @@ mod laws;
 mod moves;
 mod numbers;
 mod pieces;
+mod readings;
 mod rooms;
 mod token;
 mod tokenizing;
@@ -25,6 +26,7 @@ pub use laws::{
 };
 pub use moves::{Direction, MoveForm, MoveTree, Pattern, PatternCase};
 pub use numbers::number_value;
+pub use readings::{next_place, place_of, word_of};
 pub use token::{Token, TokenKind, TokenList};
 pub use tokenizing::tokens;
 pub use tree::{Annotation, Argument, Binders, Group, GroupList, Node, SurfaceTerm};

@@ -2,14 +2,13 @@
 
 ghost use Rattle.std.specs.Prelude.{◌≡◌, [], IfOk, Decides};
 ghost use Rattle.coq_syntax.specs.Spelled.{identifier, name};
-ghost use Rattle.vernac_parser.specs.Parser as spec;
 ghost use Rattle.move_parser.specs.Marks.{written};
 ghost use Rattle.move_parser.specs.Reading.{MayTake, IsTaken, IsHere, is_wildcard};
 ghost use Rattle.move_parser.specs.Parts.{IsPart, IsEndOf, no_fault};
 
 use crate::mark::Mark;
-use base_core::{NoMem, Text};
-use coq_syntax::{BoundName, Token, TokenKind, TokenPlace, Word};
+use base_core::NoMem;
+use coq_syntax::{BoundName, Token, TokenKind, TokenPlace, Word, place_of, word_of};
 use std::alloc::{AllocFailed, Global};
 use std::marker::Model;
 
@@ -54,25 +53,6 @@ impl<'a> Model for Cursor<'a> {
     ghost Value = { List Token };
 
     ghost view = { λ c. c.rest.now };
-}
-
-pub fn place_of(token: &Token) -> TokenPlace
-    ensures { result ≡ spec.place_of token.now }
-{
-    TokenPlace {
-        from: token.from,
-        to: token.to,
-    }
-}
-
-fn word_of(alloc: Global, token: &Token) -> Result<Word, NoMem>
-    ensures { IfOk result (λ w. w ≡ spec.word_of token.now) }
-{
-    let text = Text::copy(alloc, token.text.as_str())?;
-    Ok(Word {
-        text,
-        place: place_of(token),
-    })
 }
 
 impl<'a> Cursor<'a> {

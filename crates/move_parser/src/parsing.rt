@@ -9,37 +9,22 @@ ghost use Rattle.coq_syntax.specs.Meets.{fault_of_term};
 ghost use Rattle.base_core.specs.Answers.{Gives};
 ghost use Rattle.move_parser.specs.MoveWords.{text_of};
 ghost use Rattle.move_parser.specs.Parts.{IsTail, IsDirection, term_place, IsBehindFirst, IsRewritingOf, fault_of_rewriting};
-ghost use Rattle.coq_syntax.specs.Answers.{IsMoveParsed, next_place};
+ghost use Rattle.coq_syntax.specs.Answers.{IsMoveParsed};
 ghost use Rattle.move_parser.specs.Sentences.{read_move};
 ghost use Rattle.move_parser.specs.MoveAnswers.{IsMoveWord, stop_of};
 
-use crate::cursor::{Cursor, Halt, place_of};
+use crate::cursor::{Cursor, Halt};
 use crate::mark::Mark;
 use crate::move_word::{MoveWord, word_of_text};
 use crate::rows::plain;
 use base_core::refusal_codes::UNEXPECTED_TOKEN;
-use base_core::{Place, Refusal, Stop};
+use base_core::{Refusal, Stop};
 use coq_syntax::{
     Direction, MoveForm, MoveTree, SurfaceTerm, Token, TokenKind, TokenList, TokenPlace,
+    next_place, place_of,
 };
 use std::alloc::Global;
 use vernac_parser::parse_term;
-
-/// Where the first of these tokens stands, or the period at this byte.
-fn next_place(period: u32, rest: &[Token]) -> Place
-    ensures { result ≡ next_place period rest.now }
-{
-    match rest {
-        [next, ..] => Place::Part {
-            from: next.from,
-            to: next.to,
-        },
-        [] => Place::Part {
-            from: period,
-            to: period.saturating_add(1),
-        },
-    }
-}
 
 fn stop_of(tokens: &TokenList, halt: Halt<'_>) -> Stop
     ensures { result ≡ stop_of tokens.now halt.entry }
@@ -47,7 +32,7 @@ fn stop_of(tokens: &TokenList, halt: Halt<'_>) -> Stop
     match halt {
         Halt::Unexpected(rest) => Stop::Refused(Refusal {
             code: UNEXPECTED_TOKEN,
-            place: next_place(tokens.period(), rest),
+            place: next_place(tokens, rest),
         }),
         Halt::NoMem => Stop::NoMem,
     }

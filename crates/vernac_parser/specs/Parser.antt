@@ -6,6 +6,7 @@ use Rattle.coq_syntax.specs.declared.words.Word.{Word}
 use Rattle.coq_syntax.specs.Faults.{Fault, value_of}
 use Rattle.vernac_parser.specs.declared.sign.Sign.{Sign}
 use Rattle.vernac_parser.specs.declared.sign.Sign.TheVariants as sign
+pub use Rattle.coq_syntax.specs.Readings.{place_of, word_of}
 pub use Rattle.coq_syntax.specs.Refusals.{Outcome, unexpected}
 use Rattle.vernac_parser.specs.Signs.{is_sign, sign_of, sign_at}
 
@@ -45,12 +46,6 @@ when s p q = choose (λ t. is_sign t s) p q
 abbrev pub taken : {A : Type 0} → (Token → A) → Sign → Parser A
 taken make s [] = refuse []
 taken make s (t ∷ rest) = if is_sign (sign_of t) s then Ok (make t, rest) else refuse (t ∷ rest)
-
-abbrev pub place_of : Token → TokenPlace
-place_of t = record { from = t.from; to = t.to }
-
-abbrev pub word_of : Token → Word
-word_of t = record { text = t.text; place = place_of t }
 
 abbrev pub take : Sign → Parser TokenPlace
 take s = taken place_of s

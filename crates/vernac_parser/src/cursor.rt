@@ -1,6 +1,6 @@
 //! A cursor over the tokens of a sentence, and the steps that every rule is made of.
 
-ghost use Rattle.std.specs.Prelude.{◌≡◌, length, IfOk};
+ghost use Rattle.std.specs.Prelude.{◌≡◌, length};
 ghost use Rattle.vernac_parser.specs.Signs.{is_sign, sign_at};
 ghost use Rattle.vernac_parser.specs.Parser as spec;
 ghost use Rattle.vernac_parser.specs.Parse.{assigns};
@@ -12,9 +12,9 @@ ghost use Rattle.vernac_parser.specs.Reads.{Reads, ReadsAs};
 use crate::number::NumberUse;
 use crate::sign;
 use crate::sign::Sign;
+use base_core::NoMem;
 use base_core::refusal_codes::UNEXPECTED_TOKEN;
-use base_core::{NoMem, Text};
-use coq_syntax::{CommandWord, Token, TokenPlace, Word, command_word};
+use coq_syntax::{CommandWord, Token, TokenPlace, Word, command_word, place_of, word_of};
 use std::alloc::{AllocFailed, Global};
 use std::marker::Model;
 
@@ -68,25 +68,6 @@ impl<'a> Model for Tokens<'a> {
     ghost use Rattle.vernac_parser.specs.Signs.{sign_at};
 
     ghost invariant = { λ t. t.sign ≡ sign_at t.rest.now };
-}
-
-fn place_of(token: &Token) -> TokenPlace
-    ensures { result ≡ spec.place_of token.now }
-{
-    TokenPlace {
-        from: token.from,
-        to: token.to,
-    }
-}
-
-fn word_of(alloc: Global, token: &Token) -> Result<Word, NoMem>
-    ensures { IfOk result (λ w. w ≡ spec.word_of token.now) }
-{
-    let text = Text::copy(alloc, token.text.as_str())?;
-    Ok(Word {
-        text,
-        place: place_of(token),
-    })
 }
 
 impl<'a> Tokens<'a> {

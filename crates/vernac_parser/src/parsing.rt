@@ -11,7 +11,7 @@ use crate::cursor::{Halt, Tokens};
 use crate::grammar::{Grammar, MOST_NESTED, nested};
 use crate::rule::Rule;
 use base_core::{Place, Refusal, Stop};
-use coq_syntax::{Command, SurfaceTerm, TokenList};
+use coq_syntax::{Command, SurfaceTerm, TokenList, next_place};
 use std::alloc::Global;
 
 /// A term, and the first place of the token list that no longer belongs to it.
@@ -27,16 +27,7 @@ fn place_of(tokens: &TokenList, left: usize) -> Place
     ensures { result ≡ next_place tokens.now.period (drop (length tokens.now.items - left) tokens.now.items) }
 {
     let items = tokens.as_slice();
-    match &items[items.len() - left..] {
-        [next, ..] => Place::Part {
-            from: next.from,
-            to: next.to,
-        },
-        [] => Place::Part {
-            from: tokens.period(),
-            to: tokens.period().saturating_add(1),
-        },
-    }
+    next_place(tokens, &items[items.len() - left..])
 }
 
 fn stop_of(tokens: &TokenList, halt: Halt) -> Stop
