@@ -27,7 +27,7 @@ unfolding Ascends
 line_ends-ascend at [] = tt
 line_ends-ascend at (b ∷ rest) = ends_from (ends_line b rest) at (line_ends (at + 1) rest) (line_ends-ascend (at + 1) rest)
 
-above : (low : ℕ) (xs : List ℕ) (k d : ℕ) → Ascends low xs → k < length xs → low < get_or xs k d
+pub above : (low : ℕ) (xs : List ℕ) (k d : ℕ) → Ascends low xs → k < length xs → low < get_or xs k d
 unfolding Ascends
 above low [] k d up h = absurd (omega arith)
 above low (x ∷ xs) zero d up h = up.0

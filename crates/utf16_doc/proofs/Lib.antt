@@ -4,3 +4,5 @@ pub mod PositionLaws
 pub mod Offsets
 pub mod Alike
 pub mod Changing
+pub mod Cutting
+pub mod Characters

@@ -34,7 +34,8 @@ line_start-within text ends line start lines h is =
 
 -- ---- a run of whole characters ends where a character begins, or the line
 
-lead : (encoding : Encoding) (b most : ℕ) → leb (units_of encoding b) most ≡ false → 128 ≤ b → 192 ≤ b
+-- a character that has units begins with its first byte
+pub lead : (encoding : Encoding) (b most : ℕ) → leb (units_of encoding b) most ≡ false → 128 ≤ b → 192 ≤ b
 lead Utf8 b most h low = grind (arith, nat_tests)
 lead Utf16 b most h low = grind (arith, nat_tests)
 

@@ -4,3 +4,4 @@ pub mod Positions
 pub mod Position
 pub mod Indexed
 pub mod Edits
+pub mod Cuts
