@@ -110,7 +110,7 @@ module _ (env : List Slot) (is : IsEnvironment env) where
         (λ u e. scoped_iota env is (length ctx) (head_of t) (arguments_of t) value u (scoped_head (length ctx) (length env) t h)
         (scoped_arguments (length ctx) (length env) t h) good e)))
 
-    step_tells : (reduce : Tree → Run Tree) → ((v : Tree) → InScope v → Tells (reduce v) InScope) → (t : Tree) → InScope t →
+    pub step_tells : (reduce : Tree → Run Tree) → ((v : Tree) → InScope v → Tells (reduce v) InScope) → (t : Tree) → InScope t →
         Tells (reduce_step env delta reduce ctx t) (Turned InScope InScope)
     step_tells reduce reduces t h =
         redex_tells reduce reduces t (redex_of env delta ctx (head_of t) (arguments_of t)) h

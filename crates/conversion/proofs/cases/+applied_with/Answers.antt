@@ -1,0 +1,23 @@
+use Rattle.std.proofs.Common.{◌≡◌, ◌∙◌, sym, ap, subst, arith, rules, Ok, Err, List, ℕ, ◌∷◌, ◌+◌, ◌-◌, ◌<◌, length, take, drop}
+use Rattle.std.specs.Prelude.{IfOk}
+use Rattle.core_term.specs.Tree.{Tree, App, Prod}
+use Rattle.core_term.specs.Nodes.{tree_of}
+use Rattle.core_term.specs.Answers.{within_limits, Gives}
+use Rattle.term_spine.specs.Spine.{apply_all, shift_all}
+use Rattle.term_spine.specs.Instantiate.{instantiate, instantiate_all, values_under}
+use Rattle.cic_rules.specs.Families.{newest_first, indices, recursive_call}
+use Rattle.conversion.specs.Iota.{MayPutIn, MayPutInAll}
+use Rattle.conversion.proofs.CaseLaws as law
+use Rattle.conversion.proofs.cases.+applied_with.Goals as goal
+
+pub instantiate-requires : goal.instantiate-requires
+instantiate-requires t c =
+    let split : c.args.args.now ≡ c.in-Some.first ∷ c.in-Some.rest = rw c.in-Some.is at c.in_ok-split.ensures in
+    law.may_number c.args.vars c.args.values.now c.in-Some.first
+    (law.may_first c.args.vars c.args.values.now c.args.args.now c.in-Some.first c.in-Some.rest split c.requires) c.depth-depth.ensures.term
+
+pub applied_with-requires : goal.applied_with-requires
+applied_with-requires t c =
+    let split : c.args.args.now ≡ c.in-Some.first ∷ c.in-Some.rest = rw c.in-Some.is at c.in_ok-split.ensures in
+    let shorter = ap length split in
+    (grind (arith, shorter), law.may_rest c.args.vars c.args.values.now c.args.args.now c.in-Some.first c.in-Some.rest split c.requires)

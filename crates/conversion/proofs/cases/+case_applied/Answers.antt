@@ -1,0 +1,19 @@
+use Rattle.std.proofs.Common.{◌≡◌, ◌∙◌, sym, ap, subst, arith, rules, Ok, Err, List, ℕ, ◌∷◌, ◌+◌, ◌-◌, ◌<◌, length, take, drop}
+use Rattle.std.specs.Prelude.{IfOk}
+use Rattle.core_term.specs.Tree.{Tree, App, Prod}
+use Rattle.core_term.specs.Nodes.{tree_of}
+use Rattle.core_term.specs.Answers.{within_limits, Gives}
+use Rattle.term_spine.specs.Spine.{apply_all, shift_all}
+use Rattle.term_spine.specs.Instantiate.{instantiate, instantiate_all, values_under}
+use Rattle.cic_rules.specs.Families.{newest_first, indices, recursive_call}
+use Rattle.conversion.specs.Iota.{MayPutIn, MayPutInAll}
+use Rattle.conversion.proofs.CaseLaws as law
+use Rattle.conversion.proofs.cases.+case_applied.Goals as goal
+
+pub returns : goal.returns
+returns t c =
+    let prod : c.args.ty.now ≡ Prod c.in-Prod.name c.in-Prod.domain c.in-Prod.codomain = sym c.node.ensures.top ∙ ap tree_of c.in-Prod.is in
+    let split : c.args.args.now ≡ c.in-Some-2.first ∷ c.in-Some-2.rest = rw c.in-Some-2.is at c.in_ok-split.ensures in
+    law.case_stop_by c.in-Err.stop c.args.params c.in-Some.mark.now c.in-Some.later.now c.args.marks.now c.args.eliminator.now c.args.case c.args.values
+    c.in-Prod.name c.in-Prod.domain c.in-Prod.codomain c.args.ty.now c.in-Some-2.first c.in-Some-2.rest c.args.args.now c.in-Some.ensures.cases.0 prod split
+    c.in-Err.ensures

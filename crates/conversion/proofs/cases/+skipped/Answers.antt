@@ -1,0 +1,18 @@
+use Rattle.std.proofs.Common.{◌≡◌, ◌∙◌, sym, ap, subst, arith, rules, Ok, Err, List, ℕ, ◌∷◌, ◌+◌, ◌-◌, ◌<◌, length, take, drop}
+use Rattle.std.specs.Prelude.{IfOk}
+use Rattle.core_term.specs.Tree.{Tree, App, Prod}
+use Rattle.core_term.specs.Nodes.{tree_of}
+use Rattle.core_term.specs.Answers.{within_limits, Gives}
+use Rattle.term_spine.specs.Spine.{apply_all, shift_all}
+use Rattle.term_spine.specs.Instantiate.{instantiate, instantiate_all, values_under}
+use Rattle.cic_rules.specs.Families.{newest_first, indices, recursive_call}
+use Rattle.conversion.specs.Iota.{MayPutIn, MayPutInAll}
+use Rattle.conversion.proofs.CaseLaws as law
+use Rattle.conversion.proofs.cases.+skipped.Goals as goal
+
+pub returns : goal.returns
+returns t c =
+    let split : c.args.args.now ≡ c.in-Some.field-0-0 ∷ c.in-Some.rest = rw c.in-Some.is at c.in_ok-split.ensures in
+    let more : 0 < c.args.count = grind arith in
+    let same = law.drop_next c.args.count c.args.args.now c.in-Some.field-0-0 c.in-Some.rest split more in
+    subst (λ u. IfOk c.skipped.result (λ rest. rest ≡ u)) (sym same) c.skipped.ensures

@@ -1,0 +1,32 @@
+use Rattle.std.specs.Prelude.{◌+◌, ◌*◌}
+use Rattle.term_spine.specs.Spines.{tree_of_spine}
+use Rattle.cic_rules.specs.Fuel.{left, calls_left, IsSpentOf}
+use Rattle.conversion.proofs.ReduceLaws.{IsUnderWay}
+use Rattle.conversion.proofs.reduction.+reduction.Given as goal
+
+abbrev pub decreases-whnf : goal.decreases-whnf
+decreases-whnf l = calls_left l.fuel.now * 10
+
+abbrev pub decreases-reduce : goal.decreases-reduce
+decreases-reduce l = calls_left l.fuel.now * 10 + 9
+
+abbrev pub decreases-reduce_on : goal.decreases-reduce_on
+decreases-reduce_on l = calls_left l.fuel.now * 10 + 8
+
+abbrev pub decreases-turn : goal.decreases-turn
+decreases-turn l = calls_left l.fuel.now * 10 + 7
+
+abbrev pub decreases-turn_constant : goal.decreases-turn_constant
+decreases-turn_constant l = calls_left l.fuel.now * 10 + 6
+
+abbrev pub decreases-turn_eliminator : goal.decreases-turn_eliminator
+decreases-turn_eliminator l = calls_left l.fuel.now * 10 + 5
+
+abbrev pub invariant-reduce_on-loop-spine : goal.invariant-reduce_on-loop-spine
+invariant-reduce_on-loop-spine l = record {
+  way : IsUnderWay l.env l.delta (calls_left l.fn.fuel) l.ctx l.spine (left l.fuel) (tree_of_spine l.fn.spine) (left l.fn.fuel);
+  spent : IsSpentOf l.fn.fuel l.fuel;
+}
+
+abbrev pub decreases-reduce_on-loop-spine : goal.decreases-reduce_on-loop-spine
+decreases-reduce_on-loop-spine l = left l.fuel

@@ -1,0 +1,3 @@
+pub mod Iota
+pub mod Lookups
+pub mod Turns
