@@ -1,4 +1,5 @@
-;;; Opens a.v by eglot, sees the error in flymake's list, and leaves by shutdown and exit.  -*- lexical-binding: t -*-
+;;; Opens a.v by eglot, sees the error in flymake's list, edits it away and sees it go, makes one behind a wide
+;;; character and sees it where it stands, and leaves by shutdown and exit.  -*- lexical-binding: t -*-
 
 (require 'package)
 (package-initialize)
@@ -34,16 +35,34 @@
 (find-file "a.v")
 (call-interactively #'eglot)
 (flymake-start)
-(fleche-await "the error" #'flymake-diagnostics)
-(let* ((found (flymake-diagnostics))
-       (error (car found)))
-  (fleche-expect "how many diagnostics" (length found) 1)
-  (fleche-expect "its place"
-                 (list (flymake-diagnostic-beg error) (flymake-diagnostic-end error))
-                 '(17 31))
-  (fleche-expect "its kind" (flymake-diagnostic-type error) 'eglot-error)
-  (unless (string-match-p "name taken" (flymake-diagnostic-text error))
-    (fleche-fail "its text: %S" (flymake-diagnostic-text error))))
+
+(defun fleche-expect-error (from to)
+  "Awaits the one error, between two places of the buffer."
+  (fleche-await "the error" #'flymake-diagnostics)
+  (let* ((found (flymake-diagnostics))
+         (error (car found)))
+    (fleche-expect "how many diagnostics" (length found) 1)
+    (fleche-expect "its place"
+                   (list (flymake-diagnostic-beg error) (flymake-diagnostic-end error))
+                   (list from to))
+    (fleche-expect "its kind" (flymake-diagnostic-type error) 'eglot-error)
+    (unless (string-match-p "name taken" (flymake-diagnostic-text error))
+      (fleche-fail "its text: %S" (flymake-diagnostic-text error)))))
+
+(defun fleche-edit (from to text)
+  "Puts TEXT in place of what stands between two places, and sends the change."
+  (goto-char from)
+  (delete-region from to)
+  (insert text)
+  (eglot--signal-textDocument/didChange)
+  (flymake-start))
+
+(fleche-expect-error 17 31)
+(fleche-edit 23 24 "B")
+(fleche-await "the error to go" (lambda () (null (flymake-diagnostics))))
+(fleche-edit 1 1 "(* 𝒙 *) ")
+(fleche-edit 31 32 "A")
+(fleche-expect-error 25 39)
 
 (let* ((server (eglot-current-server))
        (process (jsonrpc--process server)))

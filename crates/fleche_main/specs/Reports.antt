@@ -2,7 +2,8 @@
 use Rattle.std.specs.Prelude.{ℕ, ◌==◌, ◌+◌, Bool, true, false, List, [], ◌∷◌, ◌++◌, codes, count_by, if◌then◌else◌}
 use Rattle.std.specs.Fmt.{decimal}
 use Rattle.base_core.specs.declared.places.Position.{Position}
-use Rattle.utf16_doc.specs.Position.{position_at}
+use Rattle.utf16_doc.specs.declared.encoding.Encoding.TheVariants.{Utf16}
+use Rattle.utf16_doc.specs.Positions.{position_at}
 use Rattle.prover_iface.specs.declared.outline.ItemKind.{ItemKind}
 use Rattle.prover_iface.specs.declared.outline.ItemKind.TheVariants.{Axiom, Definition, Inductive, Theorem, Admitted}
 use Rattle.prover_iface.specs.declared.outline.OutlineItem.{OutlineItem}
@@ -25,7 +26,7 @@ placed_line name at diag =
 
 -- a diagnostic, where it begins
 abbrev pub diag_line : List ℕ → List ℕ → AbsDiag → List ℕ
-diag_line name text diag = placed_line name (position_at text diag.from) diag
+diag_line name text diag = placed_line name (position_at Utf16 text diag.from) diag
 
 abbrev pub diag_lines : List ℕ → List ℕ → List AbsDiag → List ℕ
 diag_lines name text [] = []

@@ -4,6 +4,7 @@ ghost use Rattle.std.specs.Result.{IsErrOf};
 ghost use Rattle.base_core.specs.declared.limits.TheConstants.{TEXT_LIMIT};
 ghost use Rattle.base_core.specs.Faults.{Rose};
 ghost use Rattle.base_core.specs.Files.{file_at};
+ghost use Rattle.utf16_doc.specs.declared.encoding.Encoding.TheVariants.{Utf16};
 ghost use Rattle.doc_check.specs.Check.{checked};
 ghost use Rattle.fleche_main.specs.Outcome.{ending_of, text_outcome, bytes_outcome, file_outcome};
 ghost use Rattle.fleche_main.specs.Run.{EndsAs};
@@ -16,7 +17,7 @@ use prover_iface::Prover;
 use std::alloc::Global;
 use std::str;
 use std::sync::ledger::Ledger;
-use utf16_doc::{Doc, DocStop};
+use utf16_doc::{Doc, DocStop, Encoding};
 
 /// Clean where there is no error and no admission.
 fn ending_of(report: &Report) -> Ending
@@ -41,7 +42,8 @@ fn report_text<S: Sink, P: Prover, C: Ledger>(
     out: &mut S,
     steps: &mut Steps<C>,
 ) -> Result<Ending, Halt>
-    ensures told { EndsAs (text_outcome (checked P.means) name.now doc.now) result
+    requires { doc.now.encoding ≡ Utf16 }
+    ensures told { EndsAs (text_outcome (checked P.means) name.now doc.now.text) result
         (S.written out.old) (S.written out.new) }
     ensures failed { IsErrOf result Halt.SinkFailed → Rose (S.faults out.old) (S.faults out.new) }
     ensures read { IfOk result (λ ending. ending ≢ Ending.NotRead) }
@@ -70,7 +72,7 @@ fn check_bytes<S: Sink, P: Prover, C: Ledger>(
     let Ok(text) = str::from_utf8(bytes) else {
         return Ok(Ending::NotText);
     };
-    match Doc::new(alloc, text) {
+    match Doc::new(alloc, text, Encoding::Utf16) {
         Ok(doc) => report_text(alloc, prover, name, &doc, out, steps),
         Err(DocStop::NoMem) => Err(Halt::NoMem),
         Err(_) => Ok(Ending::NotText),

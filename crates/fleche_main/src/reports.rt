@@ -1,5 +1,6 @@
 //! The lines that are written for a file.
 ghost use Rattle.std.specs.Prelude.{◌≡◌, ◌==◌, ◌++◌, ◌+◌, ◌<◌, ◌≤◌, All, IfOk, OnOk, length, string_bytes};
+ghost use Rattle.utf16_doc.specs.declared.encoding.Encoding.TheVariants.{Utf16};
 ghost use Rattle.doc_check.specs.Check.{IsPlaced};
 ghost use Rattle.fleche_main.specs.Reports.{severity_word, diag_line, diag_lines, kind_word, lists_axioms, spaced, bracket};
 ghost use Rattle.fleche_main.specs.Reports.{listed_axioms, item_line, item_lines, is_admitted, error_count, admission_count};
@@ -23,8 +24,9 @@ fn severity_word(severity: u8) -> &'static str
 
 /// `FILE:L:C: SEV CODE: TEXT`, with line and character from 1.
 fn add_diag(lines: &mut String, name: &str, doc: &Doc, diag: &AbsDiag) -> Result<(), AllocError>
-    requires { diag.now.from ≤ length doc.now }
-    ensures { OnOk result (string_bytes lines.new ≡ string_bytes lines.old ++ diag_line name.now doc.now diag.now) }
+    requires within { diag.now.from ≤ length doc.now.text }
+    requires units { doc.now.encoding ≡ Utf16 }
+    ensures { OnOk result (string_bytes lines.new ≡ string_bytes lines.old ++ diag_line name.now doc.now.text diag.now) }
 {
     let at = doc.position_of(diag.from as usize);
     let line = u64::from(at.line) + 1;
@@ -39,8 +41,9 @@ fn add_diag(lines: &mut String, name: &str, doc: &Doc, diag: &AbsDiag) -> Result
 }
 
 fn add_diags(lines: &mut String, name: &str, doc: &Doc, diags: &[AbsDiag]) -> Result<(), AllocError>
-    requires { All (IsPlaced (length doc.now)) diags.now }
-    ensures { OnOk result (string_bytes lines.new ≡ string_bytes lines.old ++ diag_lines name.now doc.now diags.now) }
+    requires placed { All (IsPlaced (length doc.now.text)) diags.now }
+    requires units { doc.now.encoding ≡ Utf16 }
+    ensures { OnOk result (string_bytes lines.new ≡ string_bytes lines.old ++ diag_lines name.now doc.now.text diags.now) }
 {
     for diag in diags {
         add_diag(lines, name, doc, diag)?;
@@ -178,8 +181,9 @@ pub fn report_lines(
     doc: &Doc,
     report: &Report,
 ) -> Result<String, AllocError>
-    requires { All (IsPlaced (length doc.now)) report.now.diags }
-    ensures { IfOk result (λ lines. string_bytes lines ≡ file_report name.now doc.now report.now) }
+    requires placed { All (IsPlaced (length doc.now.text)) report.now.diags }
+    requires units { doc.now.encoding ≡ Utf16 }
+    ensures { IfOk result (λ lines. string_bytes lines ≡ file_report name.now doc.now.text report.now) }
 {
     let mut lines = String::new(alloc);
     let diags = report.diags.as_slice();

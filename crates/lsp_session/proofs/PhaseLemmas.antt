@@ -1,5 +1,5 @@
 -- How the steps of a session move its phase, and where they end it.
-use Rattle.std.proofs.Common.{◌≡◌, ℕ, ℤ, ◌||◌, Bool, true, false, Option, None, Some, Ok, Err, List, refl, ◌∙◌, if◌then◌else◌, is_some, int_le, nat_le, length}
+use Rattle.std.proofs.Common.{◌≡◌, ℕ, ℤ, ◌||◌, Bool, true, false, Option, None, Some, Result, Ok, Err, List, refl, ◌∙◌, if◌then◌else◌, is_some, int_le, nat_le, length}
 use Rattle.base_core.specs.declared.limits.TheConstants.{DOCUMENT_LIMIT}
 use Rattle.base_core.specs.declared.places.Change.{Change}
 use Rattle.lsp_types.specs.declared.messages.Id.{Id}
@@ -11,6 +11,8 @@ use Rattle.lsp_types.specs.declared.messages.Incoming.TheVariants as incoming
 use Rattle.lsp_types.specs.declared.messages.DecodeFault.{DecodeFault}
 use Rattle.lsp_types.specs.declared.messages.DecodeFault.TheVariants as fault
 use Rattle.lsp_types.specs.declared.error_codes.ErrorCode.TheVariants as error
+use Rattle.utf16_doc.specs.declared.stops.DocStop.{DocStop}
+use Rattle.utf16_doc.specs.declared.stops.DocStop.TheVariants as stop
 use Rattle.doc_check.specs.Check.{Views}
 use Rattle.doc_check.specs.Incremental.{is_ended}
 use Rattle.sched_core.specs.declared.events.Event.TheVariants as event
@@ -19,7 +21,7 @@ use Rattle.sched_core.specs.declared.phase.Phase.{Phase}
 use Rattle.sched_core.specs.declared.phase.Phase.TheVariants.{Fresh, Running, ShutDown}
 use Rattle.sched_core.specs.Step.{Step}
 use Rattle.sched_core.specs.Session.{Session, document_at, place_of, first_unended}
-use Rattle.sched_core.specs.Documents.{at_known, is_too_long, has_range, has_too_long, did_open, change_at, close_at}
+use Rattle.sched_core.specs.Documents.{at_known, is_too_long, text_behind, did_open, renew_by, change_at, close_at}
 use Rattle.sched_core.specs.Work.{grant_at, run_first, waits, idle}
 use Rattle.sched_core.specs.Messages.{by_phase, request_fresh, request_running, refuse_request, request, notify, notify_exit, notify_running, refuse_body, hear}
 use Rattle.lsp_session.specs.Rules.{Rules, Counted, counting}
@@ -51,11 +53,16 @@ open_leads views session uri version text =
     (leads_if (nat_le DOCUMENT_LIMIT (length session.documents)) _ _ _ _ (record { phase = refl; exit = refl })
     (leads_if (is_too_long text) _ _ _ _ (record { phase = refl; exit = refl }) (record { phase = refl; exit = refl })))
 
+renew_leads : (views : Views) (session : Session) (version : ℤ) (text : Result (List ℕ) DocStop) (place : ℕ) → Leads (renew_by views place version text session) session.phase None
+renew_leads views session version (Ok text) place = record { phase = refl; exit = refl }
+renew_leads views session version (Err stop.RangeReversed) place = record { phase = refl; exit = refl }
+renew_leads views session version (Err stop.TooLong) place = record { phase = refl; exit = refl }
+renew_leads views session version (Err stop.NoMem) place = record { phase = refl; exit = refl }
+
 change_leads : (views : Views) (session : Session) (version : ℤ) (changes : List Change) (place : ℕ) → Leads (change_at views version changes place session) session.phase None
 change_leads views session version changes place =
     leads_if (int_le version (document_at session place).version) _ _ _ _ (record { phase = refl; exit = refl })
-    (leads_if (has_range changes) _ _ _ _ (record { phase = refl; exit = refl })
-    (leads_if (has_too_long changes) _ _ _ _ (record { phase = refl; exit = refl }) (record { phase = refl; exit = refl })))
+    (renew_leads views session version (text_behind changes (document_at session place)) place)
 
 grant_leads : (views : Views) (session : Session) (units place : ℕ) → Leads (grant_at views units place session) session.phase None
 grant_leads views session units place = leads_if (is_ended (document_at session place).check) _ _ _ _ (record { phase = refl; exit = refl }) (record { phase = refl; exit = refl })

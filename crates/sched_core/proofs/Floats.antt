@@ -7,7 +7,7 @@ use Rattle.serde_json.specs.Written.{has_float, items_have_float}
 use Rattle.base_core.specs.declared.places.Position.{Position}
 use Rattle.doc_check.specs.declared.diagnostics.AbsDiag.{AbsDiag}
 use Rattle.lsp_types.specs.Bodies.{note_body}
-use Rattle.utf16_doc.specs.Position.{position_at}
+use Rattle.utf16_doc.specs.Indexed.{Document as Indexed, position_in}
 use Rattle.doc_check.specs.Incremental.{next_span}
 use Rattle.sched_core.specs.Session.{Document}
 use Rattle.sched_core.specs.Documents.{positions, progress_from}
@@ -39,21 +39,21 @@ note_is (Ok b) method params due e h told = told (ap has_float e ∙ h) ∙ ap (
 note_is (Err x) method params due e h told = tt
 
 -- the bytes of progress are those of the document that is seen
-pub progress_is : {E : Type 0} (r : Result (List ℕ) E) (uri : List ℕ) (version : ℤ) (text : List ℕ) (from : ℕ) (document : Document) → uri ≡ document.uri → version ≡ document.version → text ≡ document.check.text → from ≡ (next_span document.check).from → IfOk r (λ b. b ≡ progress_body (position_at text) uri version from (length text)) → IfOk r (λ b. b ≡ progress_from document)
-progress_is (Ok b) uri version text from document e f g h told =
+pub progress_is : {E : Type 0} (r : Result (List ℕ) E) (uri : List ℕ) (version : ℤ) (doc : Indexed) (from : ℕ) (document : Document) → uri ≡ document.uri → version ≡ document.version → doc ≡ record { encoding = document.encoding; text = document.check.text } → from ≡ (next_span document.check).from → IfOk r (λ b. b ≡ progress_body (position_in doc) uri version from (length doc.text)) → IfOk r (λ b. b ≡ progress_from document)
+progress_is (Ok b) uri version doc from document e f g h told =
     told
-    ∙ ap (λ u. progress_body (position_at text) u version from (length text)) e
-    ∙ ap (λ v. progress_body (position_at text) document.uri v from (length text)) f
-    ∙ ap (λ t. progress_body (position_at t) document.uri document.version from (length t)) g
+    ∙ ap (λ u. progress_body (position_in doc) u version from (length doc.text)) e
+    ∙ ap (λ v. progress_body (position_in doc) document.uri v from (length doc.text)) f
+    ∙ ap (λ d. progress_body (position_in d) document.uri document.version from (length d.text)) g
     ∙ ap (λ n. progress_body (positions document) document.uri document.version n (length document.check.text)) h
-progress_is (Err x) uri version text from document e f g h told = tt
+progress_is (Err x) uri version doc from document e f g h told = tt
 
 -- and those of diagnostics
-pub diags_are : {E : Type 0} (r : Result (List ℕ) E) (uri : List ℕ) (version : ℤ) (text : List ℕ) (given due : List AbsDiag) (document : Document) → uri ≡ document.uri → version ≡ document.version → text ≡ document.check.text → given ≡ due → IfOk r (λ b. b ≡ diags_body (position_at text) uri version given) → IfOk r (λ b. b ≡ diags_body (positions document) document.uri document.version due)
-diags_are (Ok b) uri version text given due document e f g h told =
+pub diags_are : {E : Type 0} (r : Result (List ℕ) E) (uri : List ℕ) (version : ℤ) (doc : Indexed) (given due : List AbsDiag) (document : Document) → uri ≡ document.uri → version ≡ document.version → doc ≡ record { encoding = document.encoding; text = document.check.text } → given ≡ due → IfOk r (λ b. b ≡ diags_body (position_in doc) uri version given) → IfOk r (λ b. b ≡ diags_body (positions document) document.uri document.version due)
+diags_are (Ok b) uri version doc given due document e f g h told =
     told
-    ∙ ap (λ u. diags_body (position_at text) u version given) e
-    ∙ ap (λ v. diags_body (position_at text) document.uri v given) f
-    ∙ ap (λ t. diags_body (position_at t) document.uri document.version given) g
+    ∙ ap (λ u. diags_body (position_in doc) u version given) e
+    ∙ ap (λ v. diags_body (position_in doc) document.uri v given) f
+    ∙ ap (λ d. diags_body (position_in d) document.uri document.version given) g
     ∙ ap (diags_body (positions document) document.uri document.version) h
-diags_are (Err x) uri version text given due document e f g h told = tt
+diags_are (Err x) uri version doc given due document e f g h told = tt

@@ -1,5 +1,5 @@
 -- Steps that run no sentence.
-use Rattle.std.proofs.Common.{◌≡◌, ℕ, Bool, true, false, None, Some, Option, is_some, int_le, nat_le, List, length, refl, if◌then◌else◌}
+use Rattle.std.proofs.Common.{◌≡◌, ℕ, Bool, true, false, None, Some, Option, is_some, int_le, nat_le, Result, Ok, Err, List, length, refl, if◌then◌else◌}
 use Rattle.base_core.specs.declared.limits.TheConstants.{DOCUMENT_LIMIT}
 use Rattle.base_core.specs.declared.places.Change.{Change}
 use Rattle.lsp_types.specs.declared.messages.Id.{Id}
@@ -9,13 +9,15 @@ use Rattle.lsp_types.specs.declared.messages.Note.{Note}
 use Rattle.lsp_types.specs.declared.messages.Note.TheVariants as note
 use Rattle.lsp_types.specs.declared.messages.DecodeFault.{DecodeFault}
 use Rattle.lsp_types.specs.declared.messages.DecodeFault.TheVariants as fault
+use Rattle.utf16_doc.specs.declared.stops.DocStop.{DocStop}
+use Rattle.utf16_doc.specs.declared.stops.DocStop.TheVariants.{RangeReversed, TooLong, NoMem}
 use Rattle.doc_check.specs.Check.{Views}
 use Rattle.sched_core.specs.declared.events.Exit.{Exit}
 use Rattle.sched_core.specs.declared.phase.Phase.{Phase}
 use Rattle.sched_core.specs.declared.phase.Phase.TheVariants.{Fresh, Running, ShutDown}
 use Rattle.sched_core.specs.Step.{Step}
 use Rattle.sched_core.specs.Session.{Session, document_at, place_of}
-use Rattle.sched_core.specs.Documents.{at_known, is_too_long, has_range, has_too_long, did_open, did_change, change_at, did_close, close_at}
+use Rattle.sched_core.specs.Documents.{at_known, is_too_long, text_behind, renew_by, did_open, did_change, change_at, did_close, close_at}
 use Rattle.sched_core.specs.Messages.{by_phase, request, request_fresh, request_running, notify_exit, refuse_body}
 
 -- it does no work
@@ -36,10 +38,16 @@ open_free views uri version text session =
     (if_free (nat_le DOCUMENT_LIMIT (length session.documents)) _ _ refl
     (if_free (is_too_long text) _ _ refl refl))
 
+renewed_free : (views : Views) (place : ℕ) (version : _) (text : Result (List ℕ) DocStop) (session : Session) → IsFree (renew_by views place version text session)
+renewed_free views place version (Ok text) session = refl
+renewed_free views place version (Err RangeReversed) session = refl
+renewed_free views place version (Err TooLong) session = refl
+renewed_free views place version (Err NoMem) session = refl
+
 pub change_free : (views : Views) (uri : List ℕ) (version : _) (changes : List Change) (session : Session) → IsFree (did_change views uri version changes session)
 change_free views uri version changes session = known_free (place_of uri session.documents) (change_at views version changes) session (λ place.
     if_free (int_le version (document_at session place).version) _ _ refl
-    (if_free (has_range changes) _ _ refl (if_free (has_too_long changes) _ _ refl refl)))
+    (renewed_free views place version (text_behind changes (document_at session place)) session))
 
 pub close_free : (uri : List ℕ) (session : Session) → IsFree (did_close uri session)
 close_free uri session = known_free (place_of uri session.documents) close_at session (λ place. refl)

@@ -1,6 +1,7 @@
 -- How many steps without a message are left behind a step.
 use Rattle.std.proofs.Common.{◌≡◌, ℕ, zero, suc, ◌+◌, ◌-◌, ◌<◌, ◌≤◌, ◌||◌, Bool, not, true, false, nat_le, int_le, None, Some, is_some, Option, Ok, Err, Result, List, [], ◌∷◌, ◌++◌, length, get_or, if◌then◌else◌, arith, subst, sym, refl, ap, ◌∙◌, All}
-use Rattle.std.specs.List.{sum_by, remove, slice_set, list_any}
+use Rattle.std.specs.List.{sum_by, remove, slice_set}
+use Rattle.std.specs.Result.{IfOk}
 use Rattle.std.proofs.lemmas.Bool.{ltb-false, leb-false}
 use Rattle.std.proofs.lemmas.List.Sums.{sum_by_push, sum_by-set, sum_by-remove}
 use Rattle.std.proofs.lemmas.List.Elements.{All-get_or}
@@ -9,6 +10,12 @@ use Rattle.std.specs.Str.{bytes_eq}
 use Rattle.std.specs.Prelude.{codes}
 use Rattle.base_core.specs.declared.limits.TheConstants.{TEXT_LIMIT, DOCUMENT_LIMIT}
 use Rattle.base_core.specs.declared.places.Change.{Change}
+use Rattle.utf16_doc.specs.declared.encoding.Encoding.{Encoding}
+use Rattle.utf16_doc.specs.declared.encoding.Encoding.TheVariants.{Utf16}
+use Rattle.utf16_doc.specs.declared.stops.DocStop.{DocStop}
+use Rattle.utf16_doc.specs.declared.stops.DocStop.TheVariants.{RangeReversed, TooLong, NoMem}
+use Rattle.utf16_doc.specs.Edits.{Edited, changes_in}
+use Rattle.utf16_doc.proofs.Short.{changes_short}
 use Rattle.lsp_types.specs.declared.messages.Id.{Id}
 use Rattle.lsp_types.specs.declared.messages.Call.{Call}
 use Rattle.lsp_types.specs.declared.messages.Call.TheVariants.{Initialize, Shutdown, Symbols, Goals}
@@ -29,7 +36,7 @@ use Rattle.sched_core.specs.declared.phase.Phase.{Phase}
 use Rattle.sched_core.specs.declared.phase.Phase.TheVariants.{Fresh, Running, ShutDown}
 use Rattle.sched_core.specs.Step.{Step, stays}
 use Rattle.sched_core.specs.Session.{Document, Session, document_in, document_at, place_of, first_unended, unfinished, idles, AreShort, unchecked}
-use Rattle.sched_core.specs.Documents.{refuse, at_known, is_too_long, has_range, has_too_long, last_text, add, did_open, renew, renewed, change_at, close_at}
+use Rattle.sched_core.specs.Documents.{refuse, at_known, is_too_long, edited_text, text_behind, add, did_open, renew, renewed, renew_by, change_at, close_at}
 use Rattle.sched_core.specs.Work.{spend, spend_on, spent_on, with_next_done, granted, grant_at, run_at, run_first, is_shut_down, all_ended, waits}
 use Rattle.sched_core.specs.Messages.{by_phase, request, request_fresh, request_running, refuse_request, notify, notify_exit, notify_running, refuse_body, hear}
 use Rattle.sched_core.specs.Messages as messages
@@ -75,18 +82,6 @@ removed_at documents place within = omega (arith, sum_by-remove unfinished docum
 fits : (text : List ℕ) → is_too_long text ≡ false → length text ≤ TEXT_LIMIT
 fits text h = ltb-false TEXT_LIMIT (length text) h
 
-or_parts : (a b : Bool) → (a || b) ≡ false → (a ≡ false) × (b ≡ false)
-or_parts true b h = absurd (never h) where
-  never : true ≡ false → ⊥
-  never k = cc
-or_parts false b h = (refl, h)
-
-last_fits : (text : List ℕ) (changes : List Change) → length text ≤ TEXT_LIMIT → has_too_long changes ≡ false → length (last_text text changes) ≤ TEXT_LIMIT
-last_fits text [] h none = h
-last_fits text (c ∷ changes) h none =
-    let parts : (is_too_long c.text ≡ false) × (has_too_long changes ≡ false) = or_parts (is_too_long c.text) (has_too_long changes) none in
-    last_fits c.text changes (fits c.text parts.0) parts.1
-
 found_within : (uri : List ℕ) (documents : List Document) (place : ℕ) → place_of uri documents ≡ Some place → place < length documents
 found_within uri documents place e = (position-Some (λ d. bytes_eq d.uri uri) documents place (document_in [] 0) e).0
 
@@ -96,25 +91,32 @@ known_adds session uri (Some place) next e h = h place (found_within uri session
 
 open_adds : (views : Views) (uri : List ℕ) (version : _) (text : List ℕ) (session : Session) → Adds session (did_open views uri version text session)
 open_adds views uri version text session =
-    let new : Step Session = add views (unchecked uri version text) session in
+    let new : Step Session = add views (unchecked uri version Utf16 text) session in
     let short : Step Session = if is_too_long text then refuse (codes "text too long") session else new in
     let room : Step Session = if nat_le DOCUMENT_LIMIT (length session.documents) then refuse (codes "too many documents") session else short in
     if_adds session (is_some (place_of uri session.documents)) (refuse (codes "document already open") session) room (none_added session (refuse (codes "document already open") session) refl)
     (λ e. if_adds session (nat_le DOCUMENT_LIMIT (length session.documents)) (refuse (codes "too many documents") session) short (none_added session (refuse (codes "too many documents") session) refl)
     (λ f. if_adds session (is_too_long text) (refuse (codes "text too long") session) new (none_added session (refuse (codes "text too long") session) refl)
-    (λ g. adds session new (pushed session.documents (unchecked uri version text) (fits text g)))))
+    (λ g. adds session new (pushed session.documents (unchecked uri version Utf16 text) (fits text g)))))
+
+renew_adds : (views : Views) (version : _) (session : Session) (place : ℕ) (text : Result (List ℕ) DocStop) → place < length session.documents → IfOk text (λ t. length t ≤ TEXT_LIMIT) → Adds session (renew_by views place version text session)
+renew_adds views version session place (Ok text) within short =
+    adds session (renew views place version text session) (set_at session.documents place (renewed version text (document_at session place)) within short)
+renew_adds views version session place (Err RangeReversed) within short = none_added session (refuse (codes "range reversed") session) refl
+renew_adds views version session place (Err TooLong) within short = none_added session (refuse (codes "text too long") session) refl
+renew_adds views version session place (Err NoMem) within short = none_added session (stays session) refl
+
+edited_short : (encoding : Encoding) (text : List ℕ) (changes : List Change) (outcome : Result Edited DocStop) → length text ≤ TEXT_LIMIT → changes_in encoding text changes ≡ outcome → IfOk (edited_text outcome) (λ t. length t ≤ TEXT_LIMIT)
+edited_short encoding text changes (Ok edited) short e = changes_short encoding text changes edited short e
+edited_short encoding text changes (Err stop) short e = tt
 
 change_adds : (views : Views) (version : _) (changes : List Change) (session : Session) → AreShort session.documents → (place : ℕ) → place < length session.documents → Adds session (change_at views version changes place session)
 change_adds views version changes session short place within =
-    let new : Step Session = renew views place version (last_text (document_at session place).check.text changes) session in
-    let fit : Step Session = if has_too_long changes then refuse (codes "text too long") session else new in
-    let whole : Step Session = if has_range changes then refuse (codes "ranged change not built") session else fit in
-    if_adds session (int_le version (document_at session place).version) (refuse (codes "version not greater") session) whole (none_added session (refuse (codes "version not greater") session) refl)
-    (λ e. if_adds session (has_range changes) (refuse (codes "ranged change not built") session) fit (none_added session (refuse (codes "ranged change not built") session) refl)
-    (λ f. if_adds session (has_too_long changes) (refuse (codes "text too long") session) new (none_added session (refuse (codes "text too long") session) refl)
-    (λ g. adds session new
-    (set_at session.documents place (renewed version (last_text (document_at session place).check.text changes) (document_at session place)) within
-    (last_fits (document_at session place).check.text changes (All-get_or IsShort session.documents place (document_in [] 0) within short) g)))))
+    let old : Document = document_at session place in
+    let new : Step Session = renew_by views place version (text_behind changes old) session in
+    if_adds session (int_le version old.version) (refuse (codes "version not greater") session) new (none_added session (refuse (codes "version not greater") session) refl)
+    (λ e. renew_adds views version session place (text_behind changes old) within
+    (edited_short old.encoding old.check.text changes (changes_in old.encoding old.check.text changes) (All-get_or IsShort session.documents place (document_in [] 0) within short) refl))
 
 spent_at : (views : Views) (units : ℕ) (session : Session) (place : ℕ) → place < length session.documents → sum_by unfinished (slice_set session.documents place (spent_on views units (document_at session place))) ≤ sum_by unfinished session.documents + TEXT_LIMIT
 spent_at views units session place within =

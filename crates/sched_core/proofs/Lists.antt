@@ -5,22 +5,9 @@ use Rattle.std.proofs.lemmas.List.{map-append}
 use Rattle.serde_json.specs.Data.{Data}
 use Rattle.serde_json.specs.View.{view}
 use Rattle.serde_json.specs.declared.value.Value.{Value}
-use Rattle.base_core.specs.declared.places.Change.{Change}
 use Rattle.base_core.specs.declared.places.Position.{Position}
 use Rattle.doc_check.specs.declared.diagnostics.AbsDiag.{AbsDiag}
 use Rattle.sched_core.specs.Bodies.{diag_data}
-use Rattle.sched_core.specs.Documents.{last_text}
-
-last_is : (text : List ℕ) (first : Change) (changes : List Change) (last : Change) → last ≡ get_or (first ∷ changes) (length changes) last → last.text ≡ last_text text (first ∷ changes)
-last_is text first [] last e = ap (λ c. c.text) e
-last_is text first (second ∷ changes) last e = last_is first.text second changes last e
-
--- the last of some changes makes the text
-pub last_of : (text : List ℕ) (changes : List Change) (last : Change) → 1 ≤ length changes → last ≡ get_or changes (length changes - 1) last → last.text ≡ last_text text changes
-last_of text [] last h e = let none : ⊥ = omega (arith, h) in absurd none
-last_of text (first ∷ changes) last h e =
-    let n : suc (length changes) - 1 ≡ length changes = omega arith in
-    last_is text first changes last (e ∙ ap (λ i. get_or (first ∷ changes) i last) n)
 
 -- one diagnostic more
 pub diags_more : (at : ℕ → Position) (diags : List AbsDiag) (i : ℕ) (diag : AbsDiag) (values new : List Value) (value : Value) → i < length diags → diag ≡ get_or diags i diag → new ≡ values ++ value ∷ [] → view value ≡ diag_data at diag → map view values ++ map (diag_data at) (drop i diags) ≡ map (diag_data at) diags → map view new ++ map (diag_data at) (drop (i + 1) diags) ≡ map (diag_data at) diags

@@ -1,10 +1,15 @@
 -- A step of the documents is that of the message.
-use Rattle.std.proofs.Common.{◌≡◌, ℕ, ℤ, ◌+◌, ◌<◌, ◌≤◌, int_le, Bool, not, false, true, None, Some, Result, Ok, Err, OnOk, List, [], length, get_or, slice_set, nat_le, refl, ap, sym, subst, ◌∙◌, arith, if◌then◌else◌}
+use Rattle.std.proofs.Common.{◌≡◌, ℕ, ℤ, ◌+◌, ◌<◌, ◌≤◌, int_le, Bool, not, false, true, None, Some, Result, Ok, Err, OnOk, IfOk, codes, List, [], ◌∷◌, length, get_or, slice_set, nat_le, refl, ap, sym, subst, ◌∙◌, arith, if◌then◌else◌}
 use Rattle.std.proofs.lemmas.Bool.{lt-leb, le-leb}
 use Rattle.std.proofs.lemmas.List.{get_or_read, get_or-set_same}
 use Rattle.base_core.specs.declared.limits.TheConstants.{TEXT_LIMIT, DOCUMENT_LIMIT}
 use Rattle.base_core.specs.declared.memory.NoMem.{NoMem}
 use Rattle.base_core.specs.declared.places.Change.{Change}
+use Rattle.utf16_doc.specs.declared.encoding.Encoding.{Encoding}
+use Rattle.utf16_doc.specs.declared.encoding.Encoding.TheVariants.{Utf16}
+use Rattle.utf16_doc.specs.declared.stops.DocStop.{DocStop}
+use Rattle.utf16_doc.specs.declared.stops.DocStop.TheVariants.{RangeReversed, TooLong}
+use Rattle.utf16_doc.specs.Indexed.{Document as Indexed}
 use Rattle.lsp_types.specs.declared.messages.Note.{Note}
 use Rattle.lsp_types.specs.declared.messages.Note.TheVariants as note
 use Rattle.doc_check.specs.Check.{Views}
@@ -14,7 +19,8 @@ use Rattle.sched_core.specs.declared.events.Event.{Event}
 use Rattle.sched_core.specs.Step.{Step, Makes}
 use Rattle.sched_core.specs.Session.{Document, Session, document_in, document_at, place_of, unchecked, idles, AreShort, update}
 use Rattle.sched_core.specs.Work.{spent_on, progress_since, granted, grant_at}
-use Rattle.sched_core.specs.Documents.{renewed, status_bodies, is_too_long, did_open, add, did_change, change_at, renew, has_range, has_too_long, last_text, did_close}
+use Rattle.sched_core.specs.Documents.{renewed, restarted, status_bodies, is_too_long, did_open, add, did_change, change_at, renew, renew_by, text_behind, Edits, refuse, did_close}
+use Rattle.sched_core.specs.Bodies.{log_body}
 use Rattle.sched_core.specs.Messages.{notify_running, notify_grant}
 use Rattle.sched_core.specs.Plain.{step, IdlesLeft}
 use Rattle.sched_core.proofs.Idles.{steps_end}
@@ -22,26 +28,57 @@ use Rattle.sched_core.proofs.Idles.{steps_end}
 same_step : (due step : Step Session) (r : Result Written NoMem) (after : Session) → due ≡ step → Makes step r after → Makes due r after
 same_step due step r after e made = subst (λ s. Makes s r after) (sym e) made
 
-open_is : (views : Views) (session : Session) (uri : List ℕ) (version : ℤ) (text : List ℕ) → place_of uri session.documents ≡ None → length session.documents < DOCUMENT_LIMIT → length text ≤ TEXT_LIMIT → did_open views uri version text session ≡ add views (unchecked uri version text) session
+open_is : (views : Views) (session : Session) (uri : List ℕ) (version : ℤ) (text : List ℕ) → place_of uri session.documents ≡ None → length session.documents < DOCUMENT_LIMIT → length text ≤ TEXT_LIMIT → did_open views uri version text session ≡ add views (unchecked uri version Utf16 text) session
 open_is views session uri version text none few short =
     let room : nat_le DOCUMENT_LIMIT (length session.documents) ≡ false = lt-leb DOCUMENT_LIMIT (length session.documents) few in
     let fits : is_too_long text ≡ false = lt-leb (TEXT_LIMIT + 1) (length text) (omega (arith, short)) in
     rw (none, room, fits) refl
 
 -- a document is opened
-pub open_made : (views : Views) (session : Session) (uri : List ℕ) (version : ℤ) (text : List ℕ) (document : Document) (r : Result Written NoMem) (after : Session) → place_of uri session.documents ≡ None → length session.documents < DOCUMENT_LIMIT → length text ≤ TEXT_LIMIT → document ≡ unchecked uri version text → Makes (add views document session) r after → Makes (did_open views uri version text session) r after
+pub open_made : (views : Views) (session : Session) (uri : List ℕ) (version : ℤ) (text : List ℕ) (document : Document) (r : Result Written NoMem) (after : Session) → place_of uri session.documents ≡ None → length session.documents < DOCUMENT_LIMIT → length text ≤ TEXT_LIMIT → document ≡ unchecked uri version Utf16 text → Makes (add views document session) r after → Makes (did_open views uri version text session) r after
 open_made views session uri version text document r after none few short is made =
     same_step (did_open views uri version text session) (add views document session) r after
     (open_is views session uri version text none few short ∙ ap (λ d. add views d session) (sym is)) made
 
-change_is : (views : Views) (session : Session) (version : ℤ) (changes : List Change) (place : ℕ) → int_le version (document_at session place).version ≡ false → has_range changes ≡ false → has_too_long changes ≡ false → change_at views version changes place session ≡ renew views place version (last_text (document_at session place).check.text changes) session
-change_is views session version changes place greater whole short = rw (greater, whole, short) refl
+-- the document that is opened has this text
+pub text_made : (views : Views) (session : Session) (uri : List ℕ) (version : ℤ) (encoding : Encoding) (text : List ℕ) (document : Document) (r : Result Written NoMem) (after : Session) → document ≡ unchecked uri version encoding text → Makes (add views document session) r after → Makes (add views (unchecked uri version encoding text) session) r after
+text_made views session uri version encoding text document r after is made = subst (λ d. Makes (add views d session) r after) is made
 
--- a document is changed
-pub change_made : (views : Views) (session : Session) (version given : ℤ) (changes : List Change) (place : ℕ) (text : List ℕ) (r : Result Written NoMem) (after : Session) → int_le version (document_at session place).version ≡ false → has_range changes ≡ false → has_too_long changes ≡ false → text ≡ last_text (document_at session place).check.text changes → given ≡ version → Makes (renew views place given text session) r after → Makes (change_at views version changes place session) r after
-change_made views session version given changes place text r after greater whole short is same made =
+change_is : (views : Views) (session : Session) (version : ℤ) (changes : List Change) (place : ℕ) (outcome : Result (List ℕ) DocStop) → int_le version (document_at session place).version ≡ false → text_behind changes (document_at session place) ≡ outcome → change_at views version changes place session ≡ renew_by views place version outcome session
+change_is views session version changes place outcome greater is = rw (greater, is) refl
+
+-- a document is changed to the text behind changes
+pub change_made : (views : Views) (session : Session) (version given : ℤ) (changes : List Change) (place : ℕ) (text : List ℕ) (r : Result Written NoMem) (after : Session) → int_le version (document_at session place).version ≡ false → text_behind changes (document_at session place) ≡ Ok text → given ≡ version → Makes (renew views place given text session) r after → Makes (change_at views version changes place session) r after
+change_made views session version given changes place text r after greater is same made =
     same_step (change_at views version changes place session) (renew views place given text session) r after
-    (change_is views session version changes place greater whole short ∙ ap (λ t. renew views place version t session) (sym is) ∙ ap (λ v. renew views place v text session) (sym same)) made
+    (change_is views session version changes place (Ok text) greater is ∙ ap (λ v. renew views place v text session) (sym same)) made
+
+-- or the changes are refused
+change_refused : (views : Views) (session : Session) (version : ℤ) (changes : List Change) (place : ℕ) (stop : DocStop) (r : Result Written NoMem) (after : Session) → int_le version (document_at session place).version ≡ false → text_behind changes (document_at session place) ≡ Err stop → Makes (renew_by views place version (Err stop) session) r after → Makes (change_at views version changes place session) r after
+change_refused views session version changes place stop r after greater is made =
+    same_step (change_at views version changes place session) (renew_by views place version (Err stop) session) r after
+    (change_is views session version changes place (Err stop) greater is) made
+
+refused_made : (session : Session) (why : List ℕ) (r : Result Written NoMem) → IfOk r (λ w. w.bodies ≡ log_body why ∷ []) → IfOk r (λ w. w.exit ≡ None) → Makes (refuse why session) r session
+refused_made session why (Ok w) wrote stays = (wrote, stays, refl)
+refused_made session why (Err none) wrote stays = tt
+
+-- the refusal that edits give
+edits_err : (document known : Document) (changes : List Change) (given : Result Indexed DocStop) (found stop : DocStop) → document ≡ known → given ≡ Err found → found ≡ stop → Edits (text_behind changes document) document.encoding given → Edits (text_behind changes known) known.encoding (Err stop)
+edits_err document known changes given found stop same is kind told =
+    subst (λ d. Edits (text_behind changes d) d.encoding (Err stop)) same (subst (λ s. Edits (text_behind changes document) document.encoding (Err s)) kind (subst (Edits (text_behind changes document) document.encoding) is told))
+
+-- a range is reversed
+pub reversed_made : (views : Views) (session : Session) (version : ℤ) (changes : List Change) (place : ℕ) (document : Document) (given : Result Indexed DocStop) (found : DocStop) (r : Result Written NoMem) → int_le version (document_at session place).version ≡ false → document ≡ document_at session place → given ≡ Err found → found ≡ RangeReversed → Edits (text_behind changes document) document.encoding given → IfOk r (λ w. w.bodies ≡ log_body (codes "range reversed") ∷ []) → IfOk r (λ w. w.exit ≡ None) → Makes (change_at views version changes place session) r session
+reversed_made views session version changes place document given found r greater same is kind told wrote stays =
+    change_refused views session version changes place RangeReversed r session greater
+    (edits_err document (document_at session place) changes given found RangeReversed same is kind told) (refused_made session (codes "range reversed") r wrote stays)
+
+-- a text is too long
+pub too_long_made : (views : Views) (session : Session) (version : ℤ) (changes : List Change) (place : ℕ) (document : Document) (given : Result Indexed DocStop) (found : DocStop) (r : Result Written NoMem) → int_le version (document_at session place).version ≡ false → document ≡ document_at session place → given ≡ Err found → found ≡ TooLong → Edits (text_behind changes document) document.encoding given → IfOk r (λ w. w.bodies ≡ log_body (codes "text too long") ∷ []) → IfOk r (λ w. w.exit ≡ None) → Makes (change_at views version changes place session) r session
+too_long_made views session version changes place document given found r greater same is kind told wrote stays =
+    change_refused views session version changes place TooLong r session greater
+    (edits_err document (document_at session place) changes given found TooLong same is kind told) (refused_made session (codes "text too long") r wrote stays)
 
 -- the document of a name is changed
 pub known_made : (views : Views) (session : Session) (uri : List ℕ) (version given : ℤ) (changes : List Change) (place : ℕ) (r : Result Written NoMem) (after : Session) → place_of uri session.documents ≡ Some place → given ≡ version → Makes (change_at views given changes place session) r after → Makes (did_change views uri version changes session) r after
@@ -85,9 +122,13 @@ grant_made views session new units place before w bodies left from put wrote sta
     same_step (grant_at views units place session) (granted views units place session) (Ok w) new (granted_is views session units place left)
     (wrote ∙ told ∙ ap (λ n. progress_since views n (document_at new place)) from ∙ ap (λ s. progress_since views (document_at session place).check.done (document_at s place)) put, stays, put)
 
+restarted_is : (session : Session) (place : ℕ) (version : ℤ) (encoding : Encoding) (text : List ℕ) → encoding ≡ (document_at session place).encoding → update place (restarted version encoding text) session ≡ update place (renewed version text) session
+restarted_is session place version encoding text same = ap (λ e. update place (restarted version e text) session) same
+
 -- a document's new version
-pub renew_made : (views : Views) (session new : Session) (place : ℕ) (version : ℤ) (text : List ℕ) (w : Written) (bodies : List (List ℕ)) → new ≡ update place (renewed version text) session → w.bodies ≡ bodies → w.exit ≡ None → bodies ≡ status_bodies views (document_at new place) → Makes (renew views place version text session) (Ok w) new
-renew_made views session new place version text w bodies put wrote stays told =
+pub renew_made : (views : Views) (session new : Session) (place : ℕ) (version : ℤ) (encoding : Encoding) (text given : List ℕ) (w : Written) (bodies : List (List ℕ)) → encoding ≡ (document_at session place).encoding → given ≡ text → new ≡ update place (restarted version encoding given) session → w.bodies ≡ bodies → w.exit ≡ None → bodies ≡ status_bodies views (document_at new place) → Makes (renew views place version text session) (Ok w) new
+renew_made views session new place version encoding text given w bodies same is restart wrote stays told =
+    let put : new ≡ update place (renewed version text) session = restart ∙ restarted_is session place version encoding given same ∙ ap (λ t. update place (renewed version t) session) is in
     (wrote ∙ told ∙ ap (λ s. status_bodies views (document_at s place)) put, stays, put)
 
 -- the document at a place, as it is read

@@ -1,10 +1,15 @@
 -- Documents are opened, changed and closed.
-use Rattle.std.specs.Prelude.{ℕ, ℤ, nat_le, nat_lt, int_le, Bool, if◌then◌else◌, Option, None, Some, is_some, List, [], ◌∷◌, ◌++◌, codes, length, remove}
-use Rattle.std.specs.List.{list_any}
+use Rattle.std.specs.Prelude.{◌≡◌, ℕ, ℤ, nat_le, nat_lt, int_le, Bool, if◌then◌else◌, Option, None, Some, is_some, Result, Ok, Err, List, [], ◌∷◌, ◌++◌, codes, length, remove}
 use Rattle.base_core.specs.declared.limits.TheConstants.{TEXT_LIMIT, DOCUMENT_LIMIT}
 use Rattle.base_core.specs.declared.places.Change.{Change}
 use Rattle.base_core.specs.declared.places.Position.{Position}
-use Rattle.utf16_doc.specs.Position.{position_at}
+use Rattle.utf16_doc.specs.declared.encoding.Encoding.{Encoding}
+use Rattle.utf16_doc.specs.declared.encoding.Encoding.TheVariants.{Utf16}
+use Rattle.utf16_doc.specs.declared.stops.DocStop.{DocStop}
+use Rattle.utf16_doc.specs.declared.stops.DocStop.TheVariants.{RangeReversed, TooLong, NoMem}
+use Rattle.utf16_doc.specs.Positions.{position_at}
+use Rattle.utf16_doc.specs.Edits.{Edited, changes_in}
+use Rattle.utf16_doc.specs.Indexed.{Document as Indexed}
 use Rattle.doc_check.specs.Check.{Views}
 use Rattle.doc_check.specs.Incremental.{progress, is_ended, next_span}
 use Rattle.sched_core.specs.Step.{Step, stays, says, and_then}
@@ -17,7 +22,7 @@ refuse why session = says (log_body why ∷ []) session
 
 -- the positions in a document's text
 abbrev pub positions : Document → ℕ → Position
-positions document = position_at document.check.text
+positions document = position_at document.encoding document.check.text
 
 -- the diagnostics of its text
 abbrev pub diags_of : Views → Document → List ℕ
@@ -64,37 +69,47 @@ did_open views uri version text session =
     if is_some (place_of uri session.documents) then refuse (codes "document already open") session else
     (if nat_le DOCUMENT_LIMIT (length session.documents) then refuse (codes "too many documents") session else
     (if is_too_long text then refuse (codes "text too long") session else
-    add views (unchecked uri version text) session))
+    add views (unchecked uri version Utf16 text) session))
 
--- the text behind changes, each of the whole text
-abbrev pub last_text : List ℕ → List Change → List ℕ
-last_text text [] = text
-last_text text (change ∷ changes) = last_text change.text changes
+-- the text that edits lead to
+abbrev pub edited_text : Result Edited DocStop → Result (List ℕ) DocStop
+edited_text (Ok edited) = Ok edited.text
+edited_text (Err stop) = Err stop
 
--- some change is of a part of the text
-abbrev pub has_range : List Change → Bool
-has_range changes = list_any (λ change. is_some change.range) changes
+-- the text of a document behind changes, each made in the text that those before it left; or the first refusal
+abbrev pub text_behind : List Change → Document → Result (List ℕ) DocStop
+text_behind changes document = edited_text (changes_in document.encoding document.check.text changes)
 
--- some change makes the text too long
-abbrev pub has_too_long : List Change → Bool
-has_too_long changes = list_any (λ change. is_too_long change.text) changes
+-- a call gives this text, with its characters counted so, unless memory runs out
+abbrev pub Edits : Result (List ℕ) DocStop → Encoding → Result Indexed DocStop → Type 0
+Edits text encoding (Ok doc) = (text ≡ Ok doc.text) × (doc.encoding ≡ encoding)
+Edits text encoding (Err NoMem) = Unit {0}
+Edits text encoding (Err stop) = text ≡ Err stop
 
 -- a new version, of which nothing is finished
 abbrev pub renewed : ℤ → List ℕ → Document → Document
 renewed version text document = record document { version = version; check = progress text 0 }
 
+-- the same with what its characters are counted in
+abbrev pub restarted : ℤ → Encoding → List ℕ → Document → Document
+restarted version encoding text document = record document { version = version; encoding = encoding; check = progress text 0 }
+
 -- a new version of the document at a place
 abbrev pub renew : Views → ℕ → ℤ → List ℕ → Session → Step Session
 renew views place version text session = and_then (stays (update place (renewed version text) session)) (tell views place)
 
--- the document at a place is changed to a version: a greater one, by changes of the whole text, and none
--- that makes it too long; nothing is finished of the new text
+-- a new version with this text, or a refusal that changes nothing; want of memory is none, so it never comes
+abbrev pub renew_by : Views → ℕ → ℤ → Result (List ℕ) DocStop → Session → Step Session
+renew_by views place version (Ok text) session = renew views place version text session
+renew_by views place version (Err RangeReversed) session = refuse (codes "range reversed") session
+renew_by views place version (Err TooLong) session = refuse (codes "text too long") session
+renew_by views place version (Err NoMem) session = stays session
+
+-- the document at a place is changed to a version, a greater one; nothing is finished of the new text
 abbrev pub change_at : Views → ℤ → List Change → ℕ → Session → Step Session
 change_at views version changes place session =
     if int_le version (document_at session place).version then refuse (codes "version not greater") session else
-    (if has_range changes then refuse (codes "ranged change not built") session else
-    (if has_too_long changes then refuse (codes "text too long") session else
-    renew views place version (last_text (document_at session place).check.text changes) session))
+    renew_by views place version (text_behind changes (document_at session place)) session
 
 abbrev pub did_change : Views → List ℕ → ℤ → List Change → Session → Step Session
 did_change views uri version changes session = at_known (place_of uri session.documents) (change_at views version changes) session

@@ -2,22 +2,25 @@
 use Rattle.std.specs.Prelude.{◌≡◌, ℕ, ◌-◌, ◌≤◌, pos, ℤ, Bool, Option, List, [], length, position, not, slice_index_or, slice_set, sum_by, All}
 use Rattle.std.specs.Str.{bytes_eq}
 use Rattle.base_core.specs.declared.limits.TheConstants.{TEXT_LIMIT}
+use Rattle.utf16_doc.specs.declared.encoding.Encoding.{Encoding}
+use Rattle.utf16_doc.specs.declared.encoding.Encoding.TheVariants.{Utf16}
 use Rattle.prover_iface.specs.Meanings.{Meanings}
 use Rattle.doc_check.specs.Check.{count}
 use Rattle.doc_check.specs.Incremental.{Progress, progress, is_ended}
 use Rattle.sched_core.specs.declared.phase.Phase.{Phase}
 use Rattle.sched_core.specs.declared.phase.Phase.TheVariants.{Fresh}
 
--- an open document: its name, the version and the text that were last accepted, and how many of the
--- text's sentences are finished
+-- an open document: its name, the version that was last accepted, what its characters are counted in, the text that
+-- was last accepted, and how many of the text's sentences are finished
 pub record Document : Type 0 where
   pub uri : List ℕ
   pub version : ℤ
+  pub encoding : Encoding
   pub check : Progress
 
 -- a document of which no sentence is finished
-abbrev pub unchecked : List ℕ → ℤ → List ℕ → Document
-unchecked uri version text = record { uri = uri; version = version; check = progress text 0 }
+abbrev pub unchecked : List ℕ → ℤ → Encoding → List ℕ → Document
+unchecked uri version encoding text = record { uri = uri; version = version; encoding = encoding; check = progress text 0 }
 
 -- whether it is paced, its phase, and the open documents in the order of their opening
 pub record Session : Type 0 where
@@ -31,7 +34,7 @@ fresh paced = record { paced = paced; phase = Fresh; documents = [] }
 
 -- the document at a place in the order of opening
 abbrev pub document_in : List Document → ℕ → Document
-document_in documents place = slice_index_or documents place (unchecked [] (pos 0) [])
+document_in documents place = slice_index_or documents place (unchecked [] (pos 0) Utf16 [])
 
 abbrev pub document_at : Session → ℕ → Document
 document_at session place = document_in session.documents place

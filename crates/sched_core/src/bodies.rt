@@ -4,7 +4,7 @@ ghost use Rattle.serde_json.specs.Data.{string};
 ghost use Rattle.serde_json.specs.View.{view};
 ghost use Rattle.doc_check.specs.Check.{IsPlaced};
 ghost use Rattle.lsp_types.specs.Bodies.{result_body};
-ghost use Rattle.utf16_doc.specs.Position.{position_at};
+ghost use Rattle.utf16_doc.specs.Indexed.{position_in};
 ghost use Rattle.sched_core.specs.Bodies.{position_data, range_data, document_data, progress_data, processing_data};
 ghost use Rattle.sched_core.specs.Bodies.{progress_body, ended_body, diag_data, diags_data, diags_body, log_data, log_body};
 ghost use Rattle.sched_core.specs.Bodies.{sync_data, capabilities_data, server_data, initialize_result};
@@ -24,9 +24,9 @@ fn position_value(alloc: Global, at: Position) -> Result<Value, NoMem>
 
 /// The range between two offsets of a text.
 fn range_value(alloc: Global, doc: &Doc, from: usize, to: usize) -> Result<Value, NoMem>
-    requires from { from ≤ length doc.now }
-    requires to { to ≤ length doc.now }
-    ensures { IfOk result (λ v. view v ≡ range_data (position_at doc.now) from to) }
+    requires from { from ≤ length doc.now.text }
+    requires to { to ≤ length doc.now.text }
+    ensures { IfOk result (λ v. view v ≡ range_data (position_in doc.now) from to) }
 {
     let start = position_value(alloc, doc.position_of(from))?;
     let end = position_value(alloc, doc.position_of(to))?;
@@ -61,8 +61,8 @@ fn processing_value(alloc: Global, range: Value) -> Result<Value, NoMem>
 
 /// The text from an offset on, as what is left.
 fn ranges_left(alloc: Global, doc: &Doc, from: usize) -> Result<Vec<Value>, NoMem>
-    requires { from ≤ length doc.now }
-    ensures { let range = range_data (position_at doc.now) from (length doc.now) in
+    requires { from ≤ length doc.now.text }
+    ensures { let range = range_data (position_in doc.now) from (length doc.now.text) in
         IfOk result (λ ranges. map view ranges.items ≡ processing_data range ∷ []) }
 {
     let range = range_value(alloc, doc, from, doc.text().len())?;
@@ -79,8 +79,8 @@ pub(crate) fn progress_body(
     doc: &Doc,
     from: usize,
 ) -> Result<Bytes, NoMem>
-    requires { from ≤ length doc.now }
-    ensures { IfOk result (λ b. b ≡ progress_body (position_at doc.now) uri.now version from (length doc.now)) }
+    requires { from ≤ length doc.now.text }
+    ensures { IfOk result (λ b. b ≡ progress_body (position_in doc.now) uri.now version from (length doc.now.text)) }
 {
     let ranges = ranges_left(alloc, doc, from)?;
     let params = progress_value(alloc, uri, version, ranges)?;
@@ -102,8 +102,8 @@ fn text_value(alloc: Global, text: &str) -> Result<Value, NoMem>
 }
 
 fn diag_value(alloc: Global, doc: &Doc, diag: &AbsDiag) -> Result<Value, NoMem>
-    requires { IsPlaced (length doc.now) diag.now }
-    ensures { IfOk result (λ v. view v ≡ diag_data (position_at doc.now) diag.now) }
+    requires { IsPlaced (length doc.now.text) diag.now }
+    ensures { IfOk result (λ v. view v ≡ diag_data (position_in doc.now) diag.now) }
 {
     let range = range_value(alloc, doc, diag.from as usize, diag.to as usize)?;
     let mut members = Map::new(alloc);
@@ -121,8 +121,8 @@ fn diag_value(alloc: Global, doc: &Doc, diag: &AbsDiag) -> Result<Value, NoMem>
 }
 
 fn diag_values(alloc: Global, doc: &Doc, diags: &[AbsDiag]) -> Result<Vec<Value>, NoMem>
-    requires { All (IsPlaced (length doc.now)) diags.now }
-    ensures { IfOk result (λ vs. map view vs.items ≡ map (diag_data (position_at doc.now)) diags.now) }
+    requires { All (IsPlaced (length doc.now.text)) diags.now }
+    ensures { IfOk result (λ vs. map view vs.items ≡ map (diag_data (position_in doc.now)) diags.now) }
 {
     let mut values = Vec::new(alloc);
     for diag in diags {
@@ -138,8 +138,8 @@ fn diags_value(
     doc: &Doc,
     diags: &[AbsDiag],
 ) -> Result<Value, NoMem>
-    requires { All (IsPlaced (length doc.now)) diags.now }
-    ensures { IfOk result (λ v. view v ≡ diags_data (position_at doc.now) uri.now version diags.now) }
+    requires { All (IsPlaced (length doc.now.text)) diags.now }
+    ensures { IfOk result (λ v. view v ≡ diags_data (position_in doc.now) uri.now version diags.now) }
 {
     let values = Value::Array(diag_values(alloc, doc, diags)?);
     Ok(json!(in alloc; {"diagnostics": values, "uri": uri, "version": version})?)
@@ -153,8 +153,8 @@ pub(crate) fn diags_body(
     doc: &Doc,
     diags: &[AbsDiag],
 ) -> Result<Bytes, NoMem>
-    requires { All (IsPlaced (length doc.now)) diags.now }
-    ensures { IfOk result (λ b. b ≡ diags_body (position_at doc.now) uri.now version diags.now) }
+    requires { All (IsPlaced (length doc.now.text)) diags.now }
+    ensures { IfOk result (λ b. b ≡ diags_body (position_in doc.now) uri.now version diags.now) }
 {
     let params = diags_value(alloc, uri, version, doc, diags)?;
     encode_note(alloc, "textDocument/publishDiagnostics", params)

@@ -1,23 +1,20 @@
 //! Documents are opened, changed and closed.
-ghost use Rattle.std.specs.Prelude.{◌≡◌, ◌≤◌, ◌<◌, length, IfOk};
+ghost use Rattle.std.specs.Prelude.{◌≡◌, ◌≤◌, ◌<◌, length};
 ghost use Rattle.base_core.specs.declared.limits.TheConstants.{TEXT_LIMIT};
 ghost use Rattle.doc_check.specs.Check.{views};
-ghost use Rattle.doc_check.specs.Incremental.{progress};
 ghost use Rattle.sched_core.specs.Step.{Makes};
-ghost use Rattle.sched_core.specs.Session.{document_at};
-ghost use Rattle.sched_core.specs.Documents.{did_open, add, did_change, change_at, renew, did_close, close_at, last_text};
+ghost use Rattle.sched_core.specs.Session.{document_at, unchecked};
+ghost use Rattle.sched_core.specs.Documents.{did_open, add, did_change, change_at, renew, did_close, close_at};
 
 use crate::Written;
-use crate::edits::{has_range, has_too_long, last_text};
 use crate::lookup::place_of;
 use crate::open_document::OpenDocument;
 use crate::replies::{answer, refuse, written};
 use crate::sched::Sched;
 use base_core::{ChangeList, DOCUMENT_LIMIT, NoMem, Text};
-use doc_check::DocCheck;
 use prover_iface::Prover;
 use std::alloc::Global;
-use utf16_doc::{Doc, DocStop};
+use utf16_doc::{Doc, DocStop, Encoding};
 
 impl<P: Prover> Sched<P> {
     /// A document more, which says how far it is.
@@ -28,6 +25,23 @@ impl<P: Prover> Sched<P> {
         let bodies = self.status_of(alloc, &document)?;
         self.keep(document)?;
         Ok(written(bodies))
+    }
+
+    /// A document of this text is opened.
+    fn open_text(
+        &mut self,
+        alloc: Global,
+        uri: Text,
+        version: i32,
+        text: Text,
+        doc: Doc,
+    ) -> Result<Written, NoMem>
+        requires same { doc.text ≡ text }
+        requires short { length text ≤ TEXT_LIMIT }
+        ensures { Makes (add (views P.means) (unchecked uri version doc.encoding text) self.old) result self.new }
+    {
+        let check = self.begin(alloc, text)?;
+        self.add(alloc, OpenDocument::new(uri, version, doc, check))
     }
 
     /// A document is opened.
@@ -46,30 +60,10 @@ impl<P: Prover> Sched<P> {
         if self.documents().len() >= DOCUMENT_LIMIT {
             return refuse(alloc, "too many documents");
         }
-        match self.begin(alloc, text) {
-            Ok((doc, check)) => self.add(alloc, OpenDocument::new(uri, version, doc, check)),
+        match Doc::new(alloc, text.as_str(), Encoding::Utf16) {
+            Ok(doc) => self.open_text(alloc, uri, version, text, doc),
             Err(DocStop::NoMem) => Err(NoMem),
             Err(_) => refuse(alloc, "text too long"),
-        }
-    }
-
-    /// The text of a document behind changes, of which no sentence is finished.
-    fn begin_changed(
-        &self,
-        alloc: Global,
-        place: usize,
-        changes: &ChangeList,
-    ) -> Result<(Doc, DocCheck<P>), NoMem>
-        requires { place < length self.now.documents }
-        ensures begun { let text = last_text (document_at self.now place).check.text changes.now in
-            IfOk result (λ parts. parts.1 ≡ progress text 0) }
-        ensures same { IfOk result (λ p. p.0 ≡ p.1.text) }
-        ensures short { IfOk result (λ p. length p.1.text ≤ TEXT_LIMIT) }
-    {
-        let text = last_text(self.document(place).text(), changes.as_slice()).share()?;
-        match self.begin(alloc, text) {
-            Ok(parts) => Ok(parts),
-            Err(_) => Err(NoMem),
         }
     }
 
@@ -80,14 +74,13 @@ impl<P: Prover> Sched<P> {
         place: usize,
         version: i32,
         doc: Doc,
-        check: DocCheck<P>,
     ) -> Result<Written, NoMem>
         requires within { place < length self.old.documents }
-        requires same { doc ≡ check.text }
-        requires none { check.done ≡ 0 }
-        requires short { length check.text ≤ TEXT_LIMIT }
-        ensures { Makes (renew (views P.means) place version check.text self.old) result self.new }
+        requires same { doc.encoding ≡ (document_at self.old place).encoding }
+        ensures { Makes (renew (views P.means) place version doc.text self.old) result self.new }
     {
+        let text = Text::copy(alloc, doc.text())?;
+        let check = self.begin(alloc, text)?;
         self.restart(place, version, doc, check);
         Ok(written(self.status_at(alloc, place)?))
     }
@@ -106,14 +99,12 @@ impl<P: Prover> Sched<P> {
         if version <= self.document(place).version() {
             return refuse(alloc, "version not greater");
         }
-        if has_range(changes.as_slice()) {
-            return refuse(alloc, "ranged change not built");
+        match self.document(place).edited(alloc, changes) {
+            Ok(doc) => self.renew(alloc, place, version, doc),
+            Err(DocStop::RangeReversed) => refuse(alloc, "range reversed"),
+            Err(DocStop::TooLong) => refuse(alloc, "text too long"),
+            Err(DocStop::NoMem) => Err(NoMem),
         }
-        if has_too_long(changes.as_slice()) {
-            return refuse(alloc, "text too long");
-        }
-        let (doc, check) = self.begin_changed(alloc, place, changes)?;
-        self.renew(alloc, place, version, doc, check)
     }
 
     /// A document is changed.

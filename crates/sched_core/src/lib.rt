@@ -4,7 +4,6 @@
 
 mod bodies;
 mod documents;
-mod edits;
 mod events;
 mod laws;
 mod lookup;

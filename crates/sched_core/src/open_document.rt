@@ -1,24 +1,23 @@
 //! An open document, with what is kept of its finished sentences.
-ghost use Rattle.std.specs.Prelude.{◌≡◌, ◌≤◌, true, false, length, IfOk, OnOk};
+ghost use Rattle.std.specs.Prelude.{◌≡◌, ◌≤◌, true, false, IfOk, OnOk};
 ghost use Rattle.std.specs.Str.{bytes_eq};
-ghost use Rattle.base_core.specs.declared.limits.TheConstants.{TEXT_LIMIT};
 ghost use Rattle.prover_iface.specs.Exec.{Works, Worked};
 ghost use Rattle.doc_check.specs.Check.{views};
 ghost use Rattle.doc_check.specs.Incremental.{is_ended, next_cost, cost_left, Advances};
 ghost use Rattle.sched_core.specs.Bodies.{ended_body as ended_bytes};
-ghost use Rattle.sched_core.specs.Documents.{progress_from, diags_of, no_diags, status_bodies, end_pair};
+ghost use Rattle.sched_core.specs.Documents.{text_behind, Edits, progress_from, diags_of, no_diags, status_bodies, end_pair};
 ghost use Rattle.sched_core.specs.Work.{progress_since, pair_at_end, spend_on, spent_on, with_next_done};
 
 use crate::BytesList;
 use crate::bodies::{diags_body, ended_body, progress_body};
 use crate::replies::one_body;
-use base_core::{Bytes, NoMem, Steps, Text};
+use base_core::{Bytes, ChangeList, NoMem, Steps, Text};
 use doc_check::{Advance, DocCheck};
 use prover_iface::Prover;
 use std::alloc::Global;
 use std::marker::Model;
 use std::sync::ledger::Ledger;
-use utf16_doc::Doc;
+use utf16_doc::{Doc, DocStop};
 
 /// A document that the client opened.
 #[derive(Drop)]
@@ -36,15 +35,15 @@ impl<P: Prover> Model for OpenDocument<P> {
 
     ghost Value = { Document };
 
-    ghost view = { λ d. record { uri = d.uri; version = d.version; check = d.check } };
+    ghost view = { λ d. record { uri = d.uri; version = d.version; encoding = d.doc.encoding; check = d.check } };
 
-    ghost invariant = { λ d. d.doc ≡ d.check.text };
+    ghost invariant = { λ d. d.doc.text ≡ d.check.text };
 }
 
 impl<P: Prover> OpenDocument<P> {
     pub(crate) fn new(uri: Text, version: i32, doc: Doc, check: DocCheck<P>) -> OpenDocument<P>
-        requires { doc ≡ check.text }
-        ensures { result ≡ record { uri = uri; version = version; check = check } }
+        requires { doc.text ≡ check.text }
+        ensures { result ≡ record { uri = uri; version = version; encoding = doc.encoding; check = check } }
     {
         OpenDocument {
             uri,
@@ -74,11 +73,15 @@ impl<P: Prover> OpenDocument<P> {
         self.check.is_ended()
     }
 
-    pub(crate) fn text(&self) -> &Text
-        ensures text { result.now ≡ self.now.check.text }
-        ensures short { length self.now.check.text ≤ TEXT_LIMIT }
+    /// The text behind changes.
+    pub(crate) fn edited(&self, alloc: Global, changes: &ChangeList) -> Result<Doc, DocStop>
+        ensures { Edits (text_behind changes.now self.now) self.now.encoding result }
     {
-        self.check.text()
+        let mut doc = self.doc.copy(alloc)?;
+        match doc.apply(alloc, changes) {
+            Ok(_first) => Ok(doc),
+            Err(stop) => Err(stop),
+        }
     }
 
     /// How many sentences are finished.
@@ -90,8 +93,8 @@ impl<P: Prover> OpenDocument<P> {
 
     /// A new version, of which nothing is finished.
     pub(crate) fn replace(&mut self, version: i32, doc: Doc, check: DocCheck<P>)
-        requires { doc ≡ check.text }
-        ensures { self.new ≡ record { uri = self.old.uri; version = version; check = check } }
+        requires { doc.text ≡ check.text }
+        ensures { self.new ≡ record { uri = self.old.uri; version = version; encoding = doc.encoding; check = check } }
     {
         self.version = version;
         self.doc = doc;

@@ -1,12 +1,11 @@
 //! A session, and what is kept of the finished sentences of its documents.
 ghost use Rattle.std.specs.Prelude.{◌≡◌, ◌≤◌, ◌<◌, ◌∷◌, ◌++◌, [], false, length, remove, IfOk, OnOk};
-ghost use Rattle.std.specs.Result.{IsErrOf};
 ghost use Rattle.base_core.specs.declared.limits.TheConstants.{TEXT_LIMIT};
 ghost use Rattle.prover_iface.specs.Exec.{Worked};
 ghost use Rattle.doc_check.specs.Check.{views};
 ghost use Rattle.doc_check.specs.Incremental.{progress, is_ended};
 ghost use Rattle.sched_core.specs.Session.{fresh, document_at, set_documents, set_phase, update, AreShort};
-ghost use Rattle.sched_core.specs.Documents.{renewed, status_bodies};
+ghost use Rattle.sched_core.specs.Documents.{restarted, status_bodies};
 ghost use Rattle.sched_core.specs.Work.{is_shut_down, all_ended, work_of, spent_on, cost_of_next, with_next_done};
 ghost use Rattle.sched_core.specs.Work.{progress_since, pair_at_end};
 
@@ -20,7 +19,7 @@ use prover_iface::Prover;
 use std::alloc::Global;
 use std::marker::Model;
 use std::sync::ledger::Ledger;
-use utf16_doc::{Doc, DocStop};
+use utf16_doc::Doc;
 
 /// A session, and what is kept of the finished sentences of its documents.
 #[derive(Drop)]
@@ -119,17 +118,11 @@ impl<P: Prover> Sched<P> {
     }
 
     /// A text of which no sentence is finished.
-    pub(crate) fn begin(&self, alloc: Global, text: Text) -> Result<(Doc, DocCheck<P>), DocStop>
-        ensures begun { IfOk result (λ parts. (parts.0 ≡ text) × (parts.1 ≡ progress text 0)) }
-        ensures short { IfOk result (λ _. length text ≤ TEXT_LIMIT) }
-        ensures too_long { IsErrOf result DocStop.TooLong → TEXT_LIMIT < length text }
-        ensures no_range { IsErrOf result DocStop.RangeReversed → ⊥ }
+    pub(crate) fn begin(&self, alloc: Global, text: Text) -> Result<DocCheck<P>, NoMem>
+        requires { length text ≤ TEXT_LIMIT }
+        ensures { IfOk result (λ check. check ≡ progress text 0) }
     {
-        let doc = Doc::new(alloc, text.as_str())?;
-        match DocCheck::new(alloc, text, &self.prover, &self.first) {
-            Ok(check) => Ok((doc, check)),
-            Err(NoMem) => Err(DocStop::NoMem),
-        }
+        DocCheck::new(alloc, text, &self.prover, &self.first)
     }
 
     /// A document more.
@@ -144,10 +137,10 @@ impl<P: Prover> Sched<P> {
     /// A new version of the document at a place.
     pub(crate) fn restart(&mut self, place: usize, version: i32, doc: Doc, check: DocCheck<P>)
         requires within { place < length self.old.documents }
-        requires same { doc ≡ check.text }
+        requires same { doc.text ≡ check.text }
         requires none { check.done ≡ 0 }
         requires short { length check.text ≤ TEXT_LIMIT }
-        ensures { self.new ≡ update place (renewed version check.text) self.old }
+        ensures { self.new ≡ update place (restarted version doc.encoding check.text) self.old }
     {
         self.documents[place].replace(version, doc, check);
     }

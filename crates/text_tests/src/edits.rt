@@ -3,7 +3,7 @@
 use base_core::{Change, ChangeList, NoMem, Position, Range, Text};
 use std::alloc::Global;
 use std::test::Fail;
-use utf16_doc::{DocStop, EncodedDoc, Encoding};
+use utf16_doc::{Doc, DocStop, Encoding};
 
 /// Line and character of a range's start and of its end.
 type Span = (u32, u32, u32, u32);
@@ -172,7 +172,7 @@ fn edits_give_the_text_and_its_first_change(rt: HostRuntime) -> Result<(), Fail>
         ),
     ];
     for (encoding, text, changes, wanted, left) in rows {
-        let mut doc = EncodedDoc::new(rt.alloc(), text, encoding)?;
+        let mut doc = Doc::new(rt.alloc(), text, encoding)?;
         let changes = list(rt.alloc(), changes)?;
         let found = doc.apply(rt.alloc(), &changes);
         assert_eq!(rt; found, wanted);
@@ -199,7 +199,7 @@ fn long_text(alloc: Global) -> Result<String, NoMem> {
 #[test]
 fn a_text_that_would_be_too_long_refuses_all_changes(rt: HostRuntime) -> Result<(), Fail> {
     let long = long_text(rt.alloc())?;
-    let mut doc = EncodedDoc::new(rt.alloc(), long.as_str(), Encoding::Utf16)?;
+    let mut doc = Doc::new(rt.alloc(), long.as_str(), Encoding::Utf16)?;
     let rows: [(&[(Option<Span>, &str)], Result<u32, DocStop>); 4] = [
         (&[(Some((0, 7, 0, 7)), "b")], Err(DocStop::TooLong)),
         (
@@ -247,7 +247,7 @@ fn offsets_are_found_by_units(rt: HostRuntime) -> Result<(), Fail> {
         (Encoding::Utf8, 1, 1, 10),
     ];
     for (encoding, line, character, wanted) in rows {
-        let doc = EncodedDoc::new(rt.alloc(), "a𝒙é\r\nb\rc", encoding)?;
+        let doc = Doc::new(rt.alloc(), "a𝒙é\r\nb\rc", encoding)?;
         let position = Position { line, character };
         assert_eq!(rt; doc.offset_of(position), wanted, "at {line}:{character}");
     }

@@ -3,12 +3,12 @@
 use base_core::{Kind, Position};
 use sentence_split::split;
 use std::test::Fail;
-use utf16_doc::Doc;
+use utf16_doc::{Doc, Encoding};
 
 #[test]
 fn positions_count_lines_and_units(rt: HostRuntime) -> Result<(), Fail> {
     let text = "a𝒙é\r\nb\rc\nd\n\n";
-    let doc = Doc::new(rt.alloc(), text)?;
+    let doc = Doc::new(rt.alloc(), text, Encoding::Utf16)?;
     let rows = [
         (0, 0, 0),
         (1, 0, 1),

@@ -6,3 +6,4 @@ pub mod Alike
 pub mod Changing
 pub mod Cutting
 pub mod Characters
+pub mod Short

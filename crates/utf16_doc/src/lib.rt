@@ -3,7 +3,6 @@
 
 mod docs;
 mod edits;
-mod encoded_doc;
 mod encoding;
 mod laws;
 mod lined_text;
@@ -13,7 +12,6 @@ mod stops;
 mod units;
 
 pub use docs::Doc;
-pub use encoded_doc::EncodedDoc;
 pub use encoding::Encoding;
 pub use laws::{law_of_offsets, law_of_units};
 pub use stops::DocStop;

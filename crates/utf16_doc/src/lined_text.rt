@@ -6,7 +6,7 @@ ghost use Rattle.utf16_doc.specs.Indexed.{IsLined};
 
 use crate::DocStop;
 use crate::lines::line_ends;
-use base_core::TEXT_LIMIT;
+use base_core::{NoMem, TEXT_LIMIT};
 use std::alloc::Global;
 use std::marker::Model;
 
@@ -40,6 +40,15 @@ impl LinedText {
             return Err(DocStop::TooLong);
         }
         let ends = line_ends(alloc, text.as_bytes())?;
+        Ok(LinedText { text, ends })
+    }
+
+    pub fn copy(&self, alloc: Global) -> Result<LinedText, NoMem>
+        ensures { IfOk result (λ lined. lined ≡ self.now) }
+    {
+        let text = String::from_str(alloc, self.text.as_str())?;
+        let mut ends = Vec::with_capacity(alloc, self.ends.len())?;
+        ends.extend_from_slice(self.ends.as_slice())?;
         Ok(LinedText { text, ends })
     }
 

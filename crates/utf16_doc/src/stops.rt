@@ -1,5 +1,6 @@
 //! Why a document is not made, or not changed.
 
+use base_core::NoMem;
 use std::alloc::AllocError;
 use thiserror::Error;
 
@@ -23,6 +24,17 @@ impl From<AllocError> for DocStop {
     ghost from_gives = { λ _ e. e ≡ NoMem };
 
     fn from(_error: AllocError) -> DocStop {
+        DocStop::NoMem
+    }
+}
+
+impl From<NoMem> for DocStop {
+    ghost use Rattle.std.specs.Prelude.{◌≡◌};
+    ghost use Rattle.utf16_doc.specs.declared.stops.DocStop.TheVariants.{NoMem as OutOfMemory};
+
+    ghost from_gives = { λ _ e. e ≡ OutOfMemory };
+
+    fn from(_error: NoMem) -> DocStop {
         DocStop::NoMem
     }
 }

@@ -1,7 +1,7 @@
 use Rattle.std.proofs.Common.{ℕ, List, refl, ap, ◌∙◌, length}
 use Rattle.utf16_doc.specs.Indexed.{Document}
 use Rattle.utf16_doc.proofs.Changing.{unchanged}
-use Rattle.utf16_doc.proofs.encoded_doc.EncodedDoc.apply.Goals as goal
+use Rattle.utf16_doc.proofs.docs.Doc.apply.Goals as goal
 
 pub returns-in-empty-clause-changed : goal.returns-in-empty-clause-changed
 returns-in-empty-clause-changed c =
