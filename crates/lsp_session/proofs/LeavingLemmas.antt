@@ -43,10 +43,10 @@ IsBegun Fresh = ⊥
 IsBegun Running = Unit {0}
 IsBegun ShutDown = Unit {0}
 
-begun_by : (phase : Phase) → IsBegun (phase_after_call phase Initialize)
-begun_by Fresh = tt
-begun_by Running = tt
-begun_by ShutDown = tt
+begun_by : (phase : Phase) (utf8 : Bool) → IsBegun (phase_after_call phase (Initialize utf8))
+begun_by Fresh utf8 = tt
+begun_by Running utf8 = tt
+begun_by ShutDown utf8 = tt
 
 begun_call : (phase : Phase) (call : Call) → IsBegun phase → IsBegun (phase_after_call phase call)
 begun_call Fresh call h = absurd h
@@ -88,8 +88,8 @@ asks_clean phase messages begun h =
 
 pub session_clean : (messages : List Message) → IsWholeSession messages → exit_of Fresh messages ≡ Some Clean
 session_clean messages h =
-    ap (exit_of Fresh) h.parts ∙ exit_go_on Fresh h.before (Ok (incoming.Request h.id Initialize) ∷ h.after) (without_exit Fresh h.before h.first)
-    ∙ asks_clean (phase_after_call (phase_behind Fresh h.before) Initialize) h.after (begun_by (phase_behind Fresh h.before)) h.asks
+    ap (exit_of Fresh) h.parts ∙ exit_go_on Fresh h.before (Ok (incoming.Request h.id (Initialize h.utf8)) ∷ h.after) (without_exit Fresh h.before h.first)
+    ∙ asks_clean (phase_after_call (phase_behind Fresh h.before) (Initialize h.utf8)) h.after (begun_by (phase_behind Fresh h.before) h.utf8) h.asks
 
 -- one message more at the front
 or_none : (a b : Bool) → a ≡ false → b ≡ false → (a || b) ≡ false
@@ -103,7 +103,7 @@ asks_later : (m : Message) (messages : List Message) → is_exit m ≡ false →
 asks_later m messages e h = record { id = h.id; before = m ∷ h.before; after = h.after; parts = ap (λ l. m ∷ l) h.parts; first = or_none (is_exit m) _ e h.first; leaves = h.leaves }
 
 session_later : (m : Message) (messages : List Message) → is_exit m ≡ false → IsWholeSession messages → IsWholeSession (m ∷ messages)
-session_later m messages e h = record { id = h.id; before = m ∷ h.before; after = h.after; parts = ap (λ l. m ∷ l) h.parts; first = or_none (is_exit m) _ e h.first; asks = h.asks }
+session_later m messages e h = record { id = h.id; utf8 = h.utf8; before = m ∷ h.before; after = h.after; parts = ap (λ l. m ∷ l) h.parts; first = or_none (is_exit m) _ e h.first; asks = h.asks }
 
 not_early : Some Early ≡ Some Clean → ⊥
 not_early e = cc
@@ -130,7 +130,7 @@ clean_session : (messages : List Message) → exit_of Fresh messages ≡ Some Cl
 clean_session [] e = absurd (never_some (sym e))
 clean_session (Ok (incoming.Note note.Exit) ∷ messages) e = absurd (not_early e)
 clean_session (Ok (incoming.Note told) ∷ messages) e = session_later (Ok (incoming.Note told)) messages refl (clean_session messages e)
-clean_session (Ok (incoming.Request id Initialize) ∷ messages) e = record { id = id; before = []; after = messages; parts = refl; first = refl; asks = clean_asks messages e }
+clean_session (Ok (incoming.Request id (Initialize utf8)) ∷ messages) e = record { id = id; utf8 = utf8; before = []; after = messages; parts = refl; first = refl; asks = clean_asks messages e }
 clean_session (Ok (incoming.Request id call) ∷ messages) e = session_later (Ok (incoming.Request id call)) messages refl (clean_session messages e)
 clean_session (Ok incoming.Reply ∷ messages) e = session_later (Ok incoming.Reply) messages refl (clean_session messages e)
 clean_session (Err why ∷ messages) e = session_later (Err why) messages refl (clean_session messages e)

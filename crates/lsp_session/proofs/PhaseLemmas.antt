@@ -69,13 +69,13 @@ grant_leads views session units place = leads_if (is_ended (document_at session 
 
 -- requests
 fresh_leads : (session : Session) (id : Id) (call : Call) → session.phase ≡ Fresh → Leads (request_fresh id call session) (phase_after_call Fresh call) None
-fresh_leads session id Initialize e = record { phase = refl; exit = refl }
+fresh_leads session id (Initialize utf8) e = record { phase = refl; exit = refl }
 fresh_leads session id Shutdown e = record { phase = e; exit = refl }
 fresh_leads session id (Symbols uri) e = record { phase = e; exit = refl }
 fresh_leads session id (Goals uri position after) e = record { phase = e; exit = refl }
 
 running_leads : (session : Session) (id : Id) (call : Call) → session.phase ≡ Running → Leads (request_running id call session) (phase_after_call Running call) None
-running_leads session id Initialize e = record { phase = e; exit = refl }
+running_leads session id (Initialize utf8) e = record { phase = e; exit = refl }
 running_leads session id Shutdown e = record { phase = refl; exit = refl }
 running_leads session id (Symbols uri) e = record { phase = e; exit = refl }
 running_leads session id (Goals uri position after) e = record { phase = e; exit = refl }

@@ -31,7 +31,7 @@ Message = Result Incoming DecodeFault
 
 -- the phase behind a request: `initialize` begins a session, and then `shutdown` shuts it down
 abbrev pub phase_after_call : Phase → Call → Phase
-phase_after_call Fresh Initialize = Running
+phase_after_call Fresh (Initialize utf8) = Running
 phase_after_call Running Shutdown = ShutDown
 phase_after_call phase call = phase
 
@@ -167,12 +167,13 @@ pub record AsksAndLeaves (messages : List Message) : Type 0 where
   pub first : NoExit before
   pub leaves : Leaves after
 
--- it begins by `initialize`, then asks for the end, and then leaves
+-- it begins by an `initialize` whose members are good, then asks for the end, and then leaves
 pub record IsWholeSession (messages : List Message) : Type 0 where
   pub id : Id
   pub before : List Message
   pub after : List Message
-  pub parts : messages ≡ before ++ Ok (incoming.Request id Initialize) ∷ after
+  pub utf8 : Bool
+  pub parts : messages ≡ before ++ Ok (incoming.Request id (Initialize utf8)) ∷ after
   pub first : NoExit before
   pub asks : AsksAndLeaves after
 

@@ -12,6 +12,7 @@ use Rattle.lsp_types.specs.declared.messages.Incoming.TheVariants.{Request}
 use Rattle.lsp_types.specs.declared.messages.DecodeFault.{DecodeFault}
 use Rattle.lsp_types.specs.declared.messages.DecodeFault.TheVariants.{BadParams, UnknownMethod}
 use Rattle.lsp_types.specs.Members.{param, document_text, position_of}
+use Rattle.lsp_types.specs.Encodings.{asks_utf8}
 
 -- the outline of the document that is named
 abbrev pub symbols : Data → Option Call
@@ -40,10 +41,15 @@ abbrev pub asked : Id → Option Call → Result Incoming DecodeFault
 asked id (Some call) = Ok (Request id call)
 asked id None = Err (BadParams id false)
 
+-- the beginning of a session, with its members good or bad
+abbrev pub begun : Id → Option Bool → Result Incoming DecodeFault
+begun id (Some utf8) = Ok (Request id (Initialize utf8))
+begun id None = Err (BadParams id true)
+
 -- the request of this method
 abbrev pub request : List ℕ → Id → Data → Result Incoming DecodeFault
 request name id message =
-    if bytes_eq name (codes "initialize") then Ok (Request id Initialize) else
+    if bytes_eq name (codes "initialize") then begun id (asks_utf8 message) else
     (if bytes_eq name (codes "shutdown") then Ok (Request id Shutdown) else
     (if bytes_eq name (codes "textDocument/documentSymbol") then asked id (symbols message) else
     (if bytes_eq name (codes "proof/goals") then asked id (goals message) else

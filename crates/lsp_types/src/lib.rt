@@ -5,6 +5,7 @@
 mod changes;
 mod decoding;
 mod encoding;
+mod encodings;
 mod envelope;
 mod error_codes;
 mod members;

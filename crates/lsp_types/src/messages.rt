@@ -15,7 +15,10 @@ pub enum Id {
 /// What a request asks for.
 #[derive(Debug, Drop)]
 pub enum Call {
-    Initialize,
+    /// A session, in which characters are counted in bytes of UTF-8, or else in units of UTF-16.
+    Initialize {
+        utf8: bool,
+    },
     Shutdown,
     /// The outline of a document.
     Symbols {
@@ -86,7 +89,7 @@ pub enum DecodeFault {
     #[error("invalid params")]
     BadParams {
         id: Id,
-        /// Whether the request is `initialize`, whose members are not looked at: never.
+        /// Whether the request is `initialize`.
         initialize: bool,
     },
     #[error("method not found")]

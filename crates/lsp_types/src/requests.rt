@@ -2,9 +2,10 @@
 ghost use Rattle.std.specs.Prelude.{◌≡◌, option_and_then, codes, IfOk};
 ghost use Rattle.serde_json.specs.View.{view};
 ghost use Rattle.lsp_types.specs.Members.{param, position_of};
-ghost use Rattle.lsp_types.specs.Requests.{symbols, after_named, after_of, goals, asked, request};
+ghost use Rattle.lsp_types.specs.Requests.{symbols, after_named, after_of, goals, asked, begun, request};
 ghost use Rattle.lsp_types.specs.Decoding.{Answers};
 
+use crate::encodings::asks_utf8;
 use crate::members::{document_text, param, position_of};
 use crate::{Call, DecodeFault, Id, Incoming};
 use base_core::{NoMem, Position};
@@ -75,6 +76,21 @@ fn asked(id: Id, call: Option<Call>) -> Result<Incoming, DecodeFault>
     }
 }
 
+fn begun(id: Id, utf8: Option<bool>) -> Result<Incoming, DecodeFault>
+    ensures { result ≡ begun id utf8 }
+{
+    match utf8 {
+        Some(utf8) => Ok(Incoming::Request {
+            id,
+            call: Call::Initialize { utf8 },
+        }),
+        None => Err(DecodeFault::BadParams {
+            id,
+            initialize: true,
+        }),
+    }
+}
+
 /// The request of this method.
 pub(crate) fn request(
     alloc: Global,
@@ -85,7 +101,7 @@ pub(crate) fn request(
     ensures { Answers (request name.now id (view message.now)) result }
 {
     if name == "initialize" {
-        return asked(id, Some(Call::Initialize));
+        return begun(id, asks_utf8(message));
     }
     if name == "shutdown" {
         return asked(id, Some(Call::Shutdown));

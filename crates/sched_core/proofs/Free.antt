@@ -65,13 +65,13 @@ exit_free exit note.Other session = refl
 exit_free exit note.BadNote session = refl
 
 fresh_free : (id : Id) (call : Call) (session : Session) → IsFree (request_fresh id call session)
-fresh_free id Initialize session = refl
+fresh_free id (Initialize utf8) session = refl
 fresh_free id Shutdown session = refl
 fresh_free id (Symbols uri) session = refl
 fresh_free id (Goals uri position after) session = refl
 
 running_free : (id : Id) (call : Call) (session : Session) → IsFree (request_running id call session)
-running_free id Initialize session = refl
+running_free id (Initialize utf8) session = refl
 running_free id Shutdown session = refl
 running_free id (Symbols uri) session = refl
 running_free id (Goals uri position after) session = refl

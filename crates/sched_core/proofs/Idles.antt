@@ -11,7 +11,6 @@ use Rattle.std.specs.Prelude.{codes}
 use Rattle.base_core.specs.declared.limits.TheConstants.{TEXT_LIMIT, DOCUMENT_LIMIT}
 use Rattle.base_core.specs.declared.places.Change.{Change}
 use Rattle.utf16_doc.specs.declared.encoding.Encoding.{Encoding}
-use Rattle.utf16_doc.specs.declared.encoding.Encoding.TheVariants.{Utf16}
 use Rattle.utf16_doc.specs.declared.stops.DocStop.{DocStop}
 use Rattle.utf16_doc.specs.declared.stops.DocStop.TheVariants.{RangeReversed, TooLong, NoMem}
 use Rattle.utf16_doc.specs.Edits.{Edited, changes_in}
@@ -91,13 +90,13 @@ known_adds session uri (Some place) next e h = h place (found_within uri session
 
 open_adds : (views : Views) (uri : List ℕ) (version : _) (text : List ℕ) (session : Session) → Adds session (did_open views uri version text session)
 open_adds views uri version text session =
-    let new : Step Session = add views (unchecked uri version Utf16 text) session in
+    let new : Step Session = add views (unchecked uri version session.encoding text) session in
     let short : Step Session = if is_too_long text then refuse (codes "text too long") session else new in
     let room : Step Session = if nat_le DOCUMENT_LIMIT (length session.documents) then refuse (codes "too many documents") session else short in
     if_adds session (is_some (place_of uri session.documents)) (refuse (codes "document already open") session) room (none_added session (refuse (codes "document already open") session) refl)
     (λ e. if_adds session (nat_le DOCUMENT_LIMIT (length session.documents)) (refuse (codes "too many documents") session) short (none_added session (refuse (codes "too many documents") session) refl)
     (λ f. if_adds session (is_too_long text) (refuse (codes "text too long") session) new (none_added session (refuse (codes "text too long") session) refl)
-    (λ g. adds session new (pushed session.documents (unchecked uri version Utf16 text) (fits text g)))))
+    (λ g. adds session new (pushed session.documents (unchecked uri version session.encoding text) (fits text g)))))
 
 renew_adds : (views : Views) (version : _) (session : Session) (place : ℕ) (text : Result (List ℕ) DocStop) → place < length session.documents → IfOk text (λ t. length t ≤ TEXT_LIMIT) → Adds session (renew_by views place version text session)
 renew_adds views version session place (Ok text) within short =
@@ -161,13 +160,13 @@ by_phase_adds session Running x y z h k l = k
 by_phase_adds session ShutDown x y z h k l = l
 
 fresh_same : (id : Id) (call : Call) (session : Session) → (request_fresh id call session).state.documents ≡ session.documents
-fresh_same id Initialize session = refl
+fresh_same id (Initialize utf8) session = refl
 fresh_same id Shutdown session = refl
 fresh_same id (Symbols uri) session = refl
 fresh_same id (Goals uri position after) session = refl
 
 running_same : (id : Id) (call : Call) (session : Session) → (request_running id call session).state.documents ≡ session.documents
-running_same id Initialize session = refl
+running_same id (Initialize utf8) session = refl
 running_same id Shutdown session = refl
 running_same id (Symbols uri) session = refl
 running_same id (Goals uri position after) session = refl

@@ -6,7 +6,6 @@ use Rattle.base_core.specs.declared.limits.TheConstants.{TEXT_LIMIT, DOCUMENT_LI
 use Rattle.base_core.specs.declared.memory.NoMem.{NoMem}
 use Rattle.base_core.specs.declared.places.Change.{Change}
 use Rattle.utf16_doc.specs.declared.encoding.Encoding.{Encoding}
-use Rattle.utf16_doc.specs.declared.encoding.Encoding.TheVariants.{Utf16}
 use Rattle.utf16_doc.specs.declared.stops.DocStop.{DocStop}
 use Rattle.utf16_doc.specs.declared.stops.DocStop.TheVariants.{RangeReversed, TooLong}
 use Rattle.utf16_doc.specs.Indexed.{Document as Indexed}
@@ -28,14 +27,14 @@ use Rattle.sched_core.proofs.Idles.{steps_end}
 same_step : (due step : Step Session) (r : Result Written NoMem) (after : Session) → due ≡ step → Makes step r after → Makes due r after
 same_step due step r after e made = subst (λ s. Makes s r after) (sym e) made
 
-open_is : (views : Views) (session : Session) (uri : List ℕ) (version : ℤ) (text : List ℕ) → place_of uri session.documents ≡ None → length session.documents < DOCUMENT_LIMIT → length text ≤ TEXT_LIMIT → did_open views uri version text session ≡ add views (unchecked uri version Utf16 text) session
+open_is : (views : Views) (session : Session) (uri : List ℕ) (version : ℤ) (text : List ℕ) → place_of uri session.documents ≡ None → length session.documents < DOCUMENT_LIMIT → length text ≤ TEXT_LIMIT → did_open views uri version text session ≡ add views (unchecked uri version session.encoding text) session
 open_is views session uri version text none few short =
     let room : nat_le DOCUMENT_LIMIT (length session.documents) ≡ false = lt-leb DOCUMENT_LIMIT (length session.documents) few in
     let fits : is_too_long text ≡ false = lt-leb (TEXT_LIMIT + 1) (length text) (omega (arith, short)) in
     rw (none, room, fits) refl
 
 -- a document is opened
-pub open_made : (views : Views) (session : Session) (uri : List ℕ) (version : ℤ) (text : List ℕ) (document : Document) (r : Result Written NoMem) (after : Session) → place_of uri session.documents ≡ None → length session.documents < DOCUMENT_LIMIT → length text ≤ TEXT_LIMIT → document ≡ unchecked uri version Utf16 text → Makes (add views document session) r after → Makes (did_open views uri version text session) r after
+pub open_made : (views : Views) (session : Session) (uri : List ℕ) (version : ℤ) (text : List ℕ) (document : Document) (r : Result Written NoMem) (after : Session) → place_of uri session.documents ≡ None → length session.documents < DOCUMENT_LIMIT → length text ≤ TEXT_LIMIT → document ≡ unchecked uri version session.encoding text → Makes (add views document session) r after → Makes (did_open views uri version text session) r after
 open_made views session uri version text document r after none few short is made =
     same_step (did_open views uri version text session) (add views document session) r after
     (open_is views session uri version text none few short ∙ ap (λ d. add views d session) (sym is)) made

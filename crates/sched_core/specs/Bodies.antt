@@ -5,6 +5,8 @@ use Rattle.serde_json.specs.Data.{Data, boolean, number, string, array, object, 
 use Rattle.serde_json.specs.Find.{of_integer}
 use Rattle.serde_json.specs.View.{items_of}
 use Rattle.base_core.specs.declared.places.Position.{Position}
+use Rattle.utf16_doc.specs.declared.encoding.Encoding.{Encoding}
+use Rattle.utf16_doc.specs.declared.encoding.Encoding.TheVariants.{Utf8, Utf16}
 use Rattle.doc_check.specs.declared.diagnostics.AbsDiag.{AbsDiag}
 use Rattle.lsp_types.specs.Bodies.{note_body}
 
@@ -67,16 +69,21 @@ log_body text = note_body (codes "window/logMessage") (log_data text)
 abbrev pub sync_data : Data
 sync_data = object (member (codes "change") (number (unsigned 2)) (member (codes "openClose") (boolean true) no_members))
 
+-- the name of what characters are counted in
+abbrev pub encoding_name : Encoding → List ℕ
+encoding_name Utf8 = codes "utf-8"
+encoding_name Utf16 = codes "utf-16"
+
 -- what the server offers
-abbrev pub capabilities_data : Data
-capabilities_data =
+abbrev pub capabilities_data : Encoding → Data
+capabilities_data encoding =
     object (member (codes "documentSymbolProvider") (boolean true)
-    (member (codes "positionEncoding") (string (codes "utf-16"))
+    (member (codes "positionEncoding") (string (encoding_name encoding))
     (member (codes "textDocumentSync") sync_data no_members)))
 
 abbrev pub server_data : Data
 server_data = object (member (codes "name") (string (codes "fleche")) (member (codes "version") (string (codes "1")) no_members))
 
 -- the answer to `initialize`
-abbrev pub initialize_result : Data
-initialize_result = object (member (codes "capabilities") capabilities_data (member (codes "serverInfo") server_data no_members))
+abbrev pub initialize_result : Encoding → Data
+initialize_result encoding = object (member (codes "capabilities") (capabilities_data encoding) (member (codes "serverInfo") server_data no_members))

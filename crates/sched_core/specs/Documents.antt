@@ -4,7 +4,6 @@ use Rattle.base_core.specs.declared.limits.TheConstants.{TEXT_LIMIT, DOCUMENT_LI
 use Rattle.base_core.specs.declared.places.Change.{Change}
 use Rattle.base_core.specs.declared.places.Position.{Position}
 use Rattle.utf16_doc.specs.declared.encoding.Encoding.{Encoding}
-use Rattle.utf16_doc.specs.declared.encoding.Encoding.TheVariants.{Utf16}
 use Rattle.utf16_doc.specs.declared.stops.DocStop.{DocStop}
 use Rattle.utf16_doc.specs.declared.stops.DocStop.TheVariants.{RangeReversed, TooLong, NoMem}
 use Rattle.utf16_doc.specs.Positions.{position_at}
@@ -69,7 +68,7 @@ did_open views uri version text session =
     if is_some (place_of uri session.documents) then refuse (codes "document already open") session else
     (if nat_le DOCUMENT_LIMIT (length session.documents) then refuse (codes "too many documents") session else
     (if is_too_long text then refuse (codes "text too long") session else
-    add views (unchecked uri version Utf16 text) session))
+    add views (unchecked uri version session.encoding text) session))
 
 -- the text that edits lead to
 abbrev pub edited_text : Result Edited DocStop → Result (List ℕ) DocStop

@@ -3,7 +3,7 @@
 --               Fresh                       Running               ShutDown
 -- request       initialize; else -32002     those below           -32600
 -- notification  exit; else none             those below           exit; else none
-use Rattle.std.specs.Prelude.{ℕ, if◌then◌else◌, Result, Ok, Err, List, [], ◌∷◌, codes}
+use Rattle.std.specs.Prelude.{ℕ, Bool, true, false, if◌then◌else◌, Result, Ok, Err, List, [], ◌∷◌, codes}
 use Rattle.serde_json.specs.Data.{null}
 use Rattle.lsp_types.specs.declared.messages.Id.{Id}
 use Rattle.lsp_types.specs.declared.messages.Id.TheVariants.{Null}
@@ -18,6 +18,8 @@ use Rattle.lsp_types.specs.declared.messages.DecodeFault.TheVariants as fault
 use Rattle.lsp_types.specs.declared.error_codes.ErrorCode.{ErrorCode}
 use Rattle.lsp_types.specs.declared.error_codes.ErrorCode.TheVariants as error
 use Rattle.lsp_types.specs.Bodies.{result_body, error_body}
+use Rattle.utf16_doc.specs.declared.encoding.Encoding.{Encoding}
+use Rattle.utf16_doc.specs.declared.encoding.Encoding.TheVariants.{Utf8, Utf16}
 use Rattle.doc_check.specs.Check.{Views}
 use Rattle.sched_core.specs.declared.events.Exit.{Exit}
 use Rattle.sched_core.specs.declared.events.Exit.TheVariants.{Clean, Early}
@@ -39,9 +41,18 @@ by_phase ShutDown fresh running shut_down = shut_down
 abbrev pub refuse_request : ErrorCode → Id → Session → Step Session
 refuse_request code id session = says (error_body id code ∷ []) session
 
+-- what characters are counted in, by what the client asks for
+abbrev pub encoding_of : Bool → Encoding
+encoding_of true = Utf8
+encoding_of false = Utf16
+
+-- the session runs, with its characters counted so
+abbrev pub set_running : Encoding → Session → Session
+set_running encoding session = record session { phase = Running; encoding = encoding }
+
 -- the session begins
-abbrev pub initialize : Id → Session → Step Session
-initialize id session = and_then (stays (set_phase Running session)) (says (result_body id initialize_result ∷ []))
+abbrev pub initialize : Id → Encoding → Session → Step Session
+initialize id encoding session = and_then (stays (set_running encoding session)) (says (result_body id (initialize_result encoding) ∷ []))
 
 -- it is shut down
 abbrev pub shut_down : Id → Session → Step Session
@@ -49,12 +60,12 @@ shut_down id session = and_then (stays (set_phase ShutDown session)) (says (resu
 
 -- a request before `initialize`
 abbrev pub request_fresh : Id → Call → Session → Step Session
-request_fresh id Initialize session = initialize id session
+request_fresh id (Initialize utf8) session = initialize id (encoding_of utf8) session
 request_fresh id call session = refuse_request error.ServerNotInitialized id session
 
 -- a request between `initialize` and `shutdown`: `shutdown` is obeyed
 abbrev pub request_running : Id → Call → Session → Step Session
-request_running id Initialize session = refuse_request error.InvalidRequest id session
+request_running id (Initialize utf8) session = refuse_request error.InvalidRequest id session
 request_running id Shutdown session = shut_down id session
 request_running id (Symbols uri) session = refuse_request error.MethodNotFound id session
 request_running id (Goals uri position after) session = refuse_request error.MethodNotFound id session
@@ -92,17 +103,21 @@ abbrev pub notify : Views → Note → Session → Step Session
 notify views heard session =
     by_phase session.phase (notify_exit Early heard session) (notify_running views heard session) (notify_exit Clean heard session)
 
--- a request that is none of those above, or whose members are bad
-abbrev pub refuse_unknown : Id → Session → Step Session
-refuse_unknown id session =
-    refuse_request (by_phase session.phase error.ServerNotInitialized error.MethodNotFound error.InvalidRequest) id session
+-- the error of a request that is none of those above
+abbrev pub unknown_in : Phase → ErrorCode
+unknown_in phase = by_phase phase error.ServerNotInitialized error.MethodNotFound error.InvalidRequest
+
+-- the error of a request whose members are bad: those of `initialize` are looked at where it is heard
+abbrev pub bad_params_in : Bool → Phase → ErrorCode
+bad_params_in true phase = by_phase phase error.InvalidParams error.InvalidRequest error.InvalidRequest
+bad_params_in false phase = unknown_in phase
 
 -- a body that is no message that can be obeyed; want of memory is no fault of a body, so it never comes
 abbrev pub refuse_body : DecodeFault → Session → Step Session
 refuse_body fault.NotJson session = refuse_request error.ParseError Null session
 refuse_body (fault.NotRequest id) session = refuse_request error.InvalidRequest id session
-refuse_body (fault.BadParams id initialize) session = refuse_unknown id session
-refuse_body (fault.UnknownMethod id) session = refuse_unknown id session
+refuse_body (fault.BadParams id initialize) session = refuse_request (bad_params_in initialize session.phase) id session
+refuse_body (fault.UnknownMethod id) session = refuse_request (unknown_in session.phase) id session
 refuse_body fault.NoMem session = stays session
 
 -- the step of a message

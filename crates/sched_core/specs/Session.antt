@@ -22,15 +22,16 @@ pub record Document : Type 0 where
 abbrev pub unchecked : List ℕ → ℤ → Encoding → List ℕ → Document
 unchecked uri version encoding text = record { uri = uri; version = version; encoding = encoding; check = progress text 0 }
 
--- whether it is paced, its phase, and the open documents in the order of their opening
+-- whether it is paced, its phase, what characters are counted in, and the open documents in the order of their opening
 pub record Session : Type 0 where
   pub paced : Bool
   pub phase : Phase
+  pub encoding : Encoding
   pub documents : List Document
 
--- where a session begins
+-- where a session begins: UTF-16, until the client asks for another
 abbrev pub fresh : Bool → Session
-fresh paced = record { paced = paced; phase = Fresh; documents = [] }
+fresh paced = record { paced = paced; phase = Fresh; encoding = Utf16; documents = [] }
 
 -- the document at a place in the order of opening
 abbrev pub document_in : List Document → ℕ → Document

@@ -7,14 +7,14 @@ ghost use Rattle.lsp_types.specs.Bodies.{result_body};
 ghost use Rattle.utf16_doc.specs.Indexed.{position_in};
 ghost use Rattle.sched_core.specs.Bodies.{position_data, range_data, document_data, progress_data, processing_data};
 ghost use Rattle.sched_core.specs.Bodies.{progress_body, ended_body, diag_data, diags_data, diags_body, log_data, log_body};
-ghost use Rattle.sched_core.specs.Bodies.{sync_data, capabilities_data, server_data, initialize_result};
+ghost use Rattle.sched_core.specs.Bodies.{encoding_name, sync_data, capabilities_data, server_data, initialize_result};
 
 use base_core::{Bytes, NoMem, Position};
 use doc_check::AbsDiag;
 use lsp_types::{Id, encode_note, encode_result};
 use serde_json::{Map, Value, json, put};
 use std::alloc::Global;
-use utf16_doc::Doc;
+use utf16_doc::{Doc, Encoding};
 
 fn position_value(alloc: Global, at: Position) -> Result<Value, NoMem>
     ensures { IfOk result (λ v. view v ≡ position_data at) }
@@ -180,13 +180,23 @@ fn sync_value(alloc: Global) -> Result<Value, NoMem>
     Ok(json!(in alloc; {"change": 2u32, "openClose": true})?)
 }
 
-fn capabilities_value(alloc: Global) -> Result<Value, NoMem>
-    ensures { IfOk result (λ v. view v ≡ capabilities_data) }
+fn encoding_name(encoding: Encoding) -> &'static str
+    ensures { result.now ≡ encoding_name encoding }
 {
+    match encoding {
+        Encoding::Utf8 => "utf-8",
+        Encoding::Utf16 => "utf-16",
+    }
+}
+
+fn capabilities_value(alloc: Global, encoding: Encoding) -> Result<Value, NoMem>
+    ensures { IfOk result (λ v. view v ≡ capabilities_data encoding) }
+{
+    let name = encoding_name(encoding);
     let sync = sync_value(alloc)?;
     Ok(json!(in alloc; {
         "documentSymbolProvider": true,
-        "positionEncoding": "utf-16",
+        "positionEncoding": name,
         "textDocumentSync": sync
     })?)
 }
@@ -197,17 +207,17 @@ fn server_value(alloc: Global) -> Result<Value, NoMem>
     Ok(json!(in alloc; {"name": "fleche", "version": "1"})?)
 }
 
-fn initialize_value(alloc: Global) -> Result<Value, NoMem>
-    ensures { IfOk result (λ v. view v ≡ initialize_result) }
+fn initialize_value(alloc: Global, encoding: Encoding) -> Result<Value, NoMem>
+    ensures { IfOk result (λ v. view v ≡ initialize_result encoding) }
 {
-    let capabilities = capabilities_value(alloc)?;
+    let capabilities = capabilities_value(alloc, encoding)?;
     let server = server_value(alloc)?;
     Ok(json!(in alloc; {"capabilities": capabilities, "serverInfo": server})?)
 }
 
-/// The answer to `initialize`: what the server offers.
-pub(crate) fn initialize_body(alloc: Global, id: &Id) -> Result<Bytes, NoMem>
-    ensures { IfOk result (λ b. b ≡ result_body id.now initialize_result) }
+/// The answer to `initialize`: what the server offers, and what it counts characters in.
+pub(crate) fn initialize_body(alloc: Global, id: &Id, encoding: Encoding) -> Result<Bytes, NoMem>
+    ensures { IfOk result (λ b. b ≡ result_body id.now (initialize_result encoding)) }
 {
-    encode_result(alloc, id, initialize_value(alloc)?)
+    encode_result(alloc, id, initialize_value(alloc, encoding)?)
 }

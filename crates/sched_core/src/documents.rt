@@ -14,7 +14,7 @@ use crate::sched::Sched;
 use base_core::{ChangeList, DOCUMENT_LIMIT, NoMem, Text};
 use prover_iface::Prover;
 use std::alloc::Global;
-use utf16_doc::{Doc, DocStop, Encoding};
+use utf16_doc::{Doc, DocStop};
 
 impl<P: Prover> Sched<P> {
     /// A document more, which says how far it is.
@@ -60,7 +60,7 @@ impl<P: Prover> Sched<P> {
         if self.documents().len() >= DOCUMENT_LIMIT {
             return refuse(alloc, "too many documents");
         }
-        match Doc::new(alloc, text.as_str(), Encoding::Utf16) {
+        match Doc::new(alloc, text.as_str(), self.encoding()) {
             Ok(doc) => self.open_text(alloc, uri, version, text, doc),
             Err(DocStop::NoMem) => Err(NoMem),
             Err(_) => refuse(alloc, "text too long"),

@@ -4,8 +4,7 @@ ghost use Rattle.prover_iface.specs.Exec.{Worked};
 ghost use Rattle.doc_check.specs.Check.{views};
 ghost use Rattle.sched_core.specs.Step.{Makes};
 ghost use Rattle.sched_core.specs.Messages.{initialize, shut_down, request, request_fresh, request_running, notify, notify_exit, notify_grant, notify_running};
-ghost use Rattle.sched_core.specs.Messages.{by_phase, refuse_body, hear};
-ghost use Rattle.lsp_types.specs.declared.error_codes.ErrorCode.TheVariants as error;
+ghost use Rattle.sched_core.specs.Messages.{unknown_in, bad_params_in, encoding_of, refuse_body, hear};
 
 use crate::bodies::initialize_body;
 use crate::phase::Phase;
@@ -18,10 +17,11 @@ use prover_iface::Prover;
 use serde_json::Value;
 use std::alloc::Global;
 use std::sync::ledger::Ledger;
+use utf16_doc::Encoding;
 
 /// The error of a request that is none of those that are heard.
 fn unknown_in(phase: Phase) -> ErrorCode
-    ensures { result ≡ by_phase phase error.ServerNotInitialized error.MethodNotFound error.InvalidRequest }
+    ensures { result ≡ unknown_in phase }
 {
     match phase {
         Phase::Fresh => ErrorCode::ServerNotInitialized,
@@ -30,13 +30,38 @@ fn unknown_in(phase: Phase) -> ErrorCode
     }
 }
 
+/// The error of a request whose members are bad.
+fn bad_params_in(initialize: bool, phase: Phase) -> ErrorCode
+    ensures { result ≡ bad_params_in initialize phase }
+{
+    if !initialize {
+        return unknown_in(phase);
+    }
+    match phase {
+        Phase::Fresh => ErrorCode::InvalidParams,
+        Phase::Running => ErrorCode::InvalidRequest,
+        Phase::ShutDown => ErrorCode::InvalidRequest,
+    }
+}
+
+/// What characters are counted in, by what the client asks for.
+fn encoding_of(utf8: bool) -> Encoding
+    ensures { result ≡ encoding_of utf8 }
+{
+    if utf8 {
+        Encoding::Utf8
+    } else {
+        Encoding::Utf16
+    }
+}
+
 impl<P: Prover> Sched<P> {
     /// The session begins.
-    fn initialize(&mut self, alloc: Global, id: &Id) -> Result<Written, NoMem>
-        ensures { Makes (initialize id.now self.old) result self.new }
+    fn initialize(&mut self, alloc: Global, id: &Id, encoding: Encoding) -> Result<Written, NoMem>
+        ensures { Makes (initialize id.now encoding self.old) result self.new }
     {
-        self.set_phase(Phase::Running);
-        answer(alloc, initialize_body(alloc, id)?)
+        self.set_running(encoding);
+        answer(alloc, initialize_body(alloc, id, encoding)?)
     }
 
     fn shut_down(&mut self, alloc: Global, id: &Id) -> Result<Written, NoMem>
@@ -50,7 +75,7 @@ impl<P: Prover> Sched<P> {
         ensures { Makes (request_fresh id.now call.now self.old) result self.new }
     {
         match call {
-            Call::Initialize => self.initialize(alloc, id),
+            Call::Initialize { utf8 } => self.initialize(alloc, id, encoding_of(*utf8)),
             Call::Shutdown => answer_error(alloc, id, ErrorCode::ServerNotInitialized),
             Call::Symbols { .. } => answer_error(alloc, id, ErrorCode::ServerNotInitialized),
             Call::Goals { .. } => answer_error(alloc, id, ErrorCode::ServerNotInitialized),
@@ -61,7 +86,7 @@ impl<P: Prover> Sched<P> {
         ensures { Makes (request_running id.now call.now self.old) result self.new }
     {
         match call {
-            Call::Initialize => answer_error(alloc, id, ErrorCode::InvalidRequest),
+            Call::Initialize { .. } => answer_error(alloc, id, ErrorCode::InvalidRequest),
             Call::Shutdown => self.shut_down(alloc, id),
             Call::Symbols { .. } => answer_error(alloc, id, ErrorCode::MethodNotFound),
             Call::Goals { .. } => answer_error(alloc, id, ErrorCode::MethodNotFound),
@@ -156,12 +181,13 @@ impl<P: Prover> Sched<P> {
     fn refuse_body(&mut self, alloc: Global, fault: &DecodeFault) -> Result<Written, NoMem>
         ensures { Makes (refuse_body fault.now self.old) result self.new }
     {
-        let unknown = unknown_in(self.phase());
         match fault {
             DecodeFault::NotJson => answer_error(alloc, &Id::Null, ErrorCode::ParseError),
             DecodeFault::NotRequest(id) => answer_error(alloc, id, ErrorCode::InvalidRequest),
-            DecodeFault::BadParams { id, .. } => answer_error(alloc, id, unknown),
-            DecodeFault::UnknownMethod(id) => answer_error(alloc, id, unknown),
+            DecodeFault::BadParams { id, initialize } => {
+                answer_error(alloc, id, bad_params_in(*initialize, self.phase()))
+            }
+            DecodeFault::UnknownMethod(id) => answer_error(alloc, id, unknown_in(self.phase())),
             DecodeFault::NoMem => Err(NoMem),
         }
     }

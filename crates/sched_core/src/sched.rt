@@ -5,6 +5,7 @@ ghost use Rattle.prover_iface.specs.Exec.{Worked};
 ghost use Rattle.doc_check.specs.Check.{views};
 ghost use Rattle.doc_check.specs.Incremental.{progress, is_ended};
 ghost use Rattle.sched_core.specs.Session.{fresh, document_at, set_documents, set_phase, update, AreShort};
+ghost use Rattle.sched_core.specs.Messages.{set_running};
 ghost use Rattle.sched_core.specs.Documents.{restarted, status_bodies};
 ghost use Rattle.sched_core.specs.Work.{is_shut_down, all_ended, work_of, spent_on, cost_of_next, with_next_done};
 ghost use Rattle.sched_core.specs.Work.{progress_since, pair_at_end};
@@ -19,7 +20,7 @@ use prover_iface::Prover;
 use std::alloc::Global;
 use std::marker::Model;
 use std::sync::ledger::Ledger;
-use utf16_doc::Doc;
+use utf16_doc::{Doc, Encoding};
 
 /// A session, and what is kept of the finished sentences of its documents.
 #[derive(Drop)]
@@ -29,6 +30,7 @@ pub struct Sched<P: Prover> {
     first: P::State,
     paced: bool,
     phase: Phase,
+    encoding: Encoding,
     /// In the order of their opening.
     documents: Vec<OpenDocument<P>>,
 }
@@ -38,7 +40,7 @@ impl<P: Prover> Model for Sched<P> {
 
     ghost Value = { Session };
 
-    ghost view = { λ s. record { paced = s.paced; phase = s.phase; documents = s.documents.items } };
+    ghost view = { λ s. record { paced = s.paced; phase = s.phase; encoding = s.encoding; documents = s.documents.items } };
 
     ghost invariant = { λ s. Holds P.means (P.meaning s.first) s.documents.items };
 }
@@ -67,6 +69,7 @@ impl<P: Prover> Sched<P> {
             first,
             paced,
             phase: Phase::Fresh,
+            encoding: Encoding::Utf16,
             documents: Vec::new(alloc),
         })
     }
@@ -94,6 +97,21 @@ impl<P: Prover> Sched<P> {
         ensures { result ≡ self.now.paced }
     {
         self.paced
+    }
+
+    /// What characters are counted in.
+    pub fn encoding(&self) -> Encoding
+        ensures { result ≡ self.now.encoding }
+    {
+        self.encoding
+    }
+
+    /// The session runs, with its characters counted so.
+    pub(crate) fn set_running(&mut self, encoding: Encoding)
+        ensures { self.new ≡ set_running encoding self.old }
+    {
+        self.phase = Phase::Running;
+        self.encoding = encoding;
     }
 
     pub(crate) fn set_phase(&mut self, phase: Phase)

@@ -97,11 +97,51 @@ const IDS: [(&str, &str); 13] = [
 ];
 
 /// Requests of id 1: the method and its members.
-const REQUESTS: [(&str, &str, &str); 22] = [
+const REQUESTS: [(&str, &str, &str); 30] = [
     (
         "initialize",
         "[]",
-        "Request { id: Number(1), call: Initialize }",
+        "Request { id: Number(1), call: Initialize { utf8: false } }",
+    ),
+    (
+        "initialize",
+        "{\"capabilities\":{\"general\":[\"utf-8\"]}}",
+        "Request { id: Number(1), call: Initialize { utf8: false } }",
+    ),
+    (
+        "initialize",
+        "{\"capabilities\":{\"general\":{\"positionEncodings\":[]}}}",
+        "Request { id: Number(1), call: Initialize { utf8: false } }",
+    ),
+    (
+        "initialize",
+        "{\"capabilities\":{\"general\":{\"positionEncodings\":[\"utf-32\",\"utf-8\",\"utf-16\"]}}}",
+        "Request { id: Number(1), call: Initialize { utf8: true } }",
+    ),
+    (
+        "initialize",
+        "{\"capabilities\":{\"general\":{\"positionEncodings\":[\"utf-16\",\"utf-8\"]}}}",
+        "Request { id: Number(1), call: Initialize { utf8: false } }",
+    ),
+    (
+        "initialize",
+        "{\"capabilities\":{\"general\":{\"positionEncodings\":[\"UTF-8\"]}}}",
+        "Request { id: Number(1), call: Initialize { utf8: false } }",
+    ),
+    (
+        "initialize",
+        "{\"capabilities\":{\"general\":{\"positionEncodings\":\"utf-8\"}}}",
+        "BadParams { id: Number(1), initialize: true }",
+    ),
+    (
+        "initialize",
+        "{\"capabilities\":{\"general\":{\"positionEncodings\":null}}}",
+        "BadParams { id: Number(1), initialize: true }",
+    ),
+    (
+        "initialize",
+        "{\"capabilities\":{\"general\":{\"positionEncodings\":[\"utf-8\",8]}}}",
+        "BadParams { id: Number(1), initialize: true }",
     ),
     ("shutdown", "3", "Request { id: Number(1), call: Shutdown }"),
     ("exit", "{}", "UnknownMethod(Number(1))"),

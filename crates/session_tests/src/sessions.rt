@@ -81,7 +81,12 @@ enum Cut {
 }
 
 /// Hands on what was gathered, as pieces.
-fn flush(alloc: Global, items: &mut ItemList, bytes: &[u8], size: usize) -> Result<(), NoMem>
+pub(crate) fn flush(
+    alloc: Global,
+    items: &mut ItemList,
+    bytes: &[u8],
+    size: usize,
+) -> Result<(), NoMem>
     requires { 0 < size }
 {
     for piece in bytes.chunks(size) {
@@ -128,7 +133,7 @@ fn script(alloc: Global, words: &[&str], cut: Cut) -> Result<ItemList, NoMem> {
 
 /// A session's circumstances.
 #[derive(Clone, Copy)]
-struct Setting {
+pub(crate) struct Setting {
     paced: bool,
     /// How many bytes it takes.
     limit: u64,
@@ -150,7 +155,7 @@ const UNPACED: Setting = Setting {
     fails: 0,
 };
 
-const PACED: Setting = Setting {
+pub(crate) const PACED: Setting = Setting {
     paced: true,
     ..UNPACED
 };
@@ -187,7 +192,11 @@ fn outcome_over<C: Ledger>(
 }
 
 /// The same over a ledger of its own.
-fn outcome(alloc: Global, items: ItemList, setting: Setting) -> Result<(u8, Vec<u8>), NoMem>
+pub(crate) fn outcome(
+    alloc: Global,
+    items: ItemList,
+    setting: Setting,
+) -> Result<(u8, Vec<u8>), NoMem>
     requires limit { setting.limit ≤ SESSION_LIMIT }
     requires most { 0 < setting.most }
 {

@@ -9,7 +9,6 @@ use Rattle.utf16_doc.specs.declared.stops.DocStop.TheVariants.{RangeReversed, To
 use Rattle.utf16_doc.specs.Positions.{offset_at}
 use Rattle.utf16_doc.specs.Edits.{Edited, replaced, limited, edit, edit_range, change_in, ◌>>=◌, changes_from, changes_in}
 
-
 short_same : (a b : Edited) → ◌≡◌ {A = Result Edited DocStop} (Ok a) (Ok b) → length a.text ≤ TEXT_LIMIT → length b.text ≤ TEXT_LIMIT
 short_same a b e h = let same : a ≡ b = cc in subst (λ x. length x.text ≤ TEXT_LIMIT) same h
 
