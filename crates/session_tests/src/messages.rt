@@ -418,8 +418,8 @@ fn expect<R: Abort>(rt: &R, alloc: Global, body: &[u8], want: &str) -> Result<()
 }
 
 fn expect_whole<R: Abort>(rt: &R, alloc: Global) -> Result<(), Fail> {
-    for (body, want) in WHOLE {
-        expect(rt, alloc, body.as_bytes(), want)?;
+    for (body, want) in &WHOLE {
+        expect(rt, alloc, body.as_bytes(), *want)?;
     }
     expect(rt, alloc, b"\"\xff\"", "NotJson")?;
     expect(
@@ -432,39 +432,39 @@ fn expect_whole<R: Abort>(rt: &R, alloc: Global) -> Result<(), Fail> {
 }
 
 fn expect_ids<R: Abort>(rt: &R, alloc: Global) -> Result<(), Fail> {
-    for (id, want) in IDS {
+    for (id, want) in &IDS {
         let body = format!(in alloc;
             "{{\"jsonrpc\":\"2.0\",\"method\":\"shutdown\",\"id\":{id}}}"
         )?;
-        expect(rt, alloc, body.as_bytes(), want)?;
+        expect(rt, alloc, body.as_bytes(), *want)?;
     }
     Ok(())
 }
 
 fn expect_requests<R: Abort>(rt: &R, alloc: Global) -> Result<(), Fail> {
-    for (method, params, want) in REQUESTS {
+    for (method, params, want) in &REQUESTS {
         let body = format!(in alloc;
             "{{\"jsonrpc\":\"2.0\",\"id\":1,\"method\":\"{method}\",\"params\":{params}}}"
         )?;
-        expect(rt, alloc, body.as_bytes(), want)?;
+        expect(rt, alloc, body.as_bytes(), *want)?;
     }
     Ok(())
 }
 
 fn expect_notes<R: Abort>(rt: &R, alloc: Global) -> Result<(), Fail> {
-    for (method, params, want) in NOTES {
+    for (method, params, want) in &NOTES {
         let body = format!(in alloc;
             "{{\"jsonrpc\":\"2.0\",\"method\":\"{method}\",\"params\":{params}}}"
         )?;
-        expect(rt, alloc, body.as_bytes(), want)?;
+        expect(rt, alloc, body.as_bytes(), *want)?;
     }
     Ok(())
 }
 
 fn expect_errors<R: Abort>(rt: &R, alloc: Global) -> Result<(), Fail> {
     let word = Id::Word(Text::copy(alloc, "a\"\n")?);
-    for (error, part) in ERRORS {
-        let got = encode_error(alloc, &word, error)?;
+    for (error, part) in &ERRORS {
+        let got = encode_error(alloc, &word, *error)?;
         let want = format!(in alloc;
             "{{\"error\":{{{part}}},\"id\":\"a\\\"\\n\",\"jsonrpc\":\"2.0\"}}"
         )?;

@@ -1,5 +1,6 @@
-use Rattle.std.proofs.Common.{◌∙◌}
+use Rattle.std.proofs.Common.{ℕ, List, ◌∙◌, ap}
 use Rattle.doc_check.specs.Check.{checked}
+use Rattle.utf16_doc.specs.Indexed.{Document}
 use Rattle.fleche_main.proofs.Texts.{not_text, is_text}
 use Rattle.fleche_main.proofs.checks.check_bytes.Goals as goal
 
@@ -11,4 +12,5 @@ returns-in_default-clause-told g c =
 pub returns-in-Ok-new-clause-told : goal.returns-in-Ok-new-clause-told
 returns-in-Ok-new-clause-told g c =
     let p = g.P.Prover in
-    is_text (checked p.means) c.args.name.now c.args.bytes.now _ _ _ _ (c.in-Ok-new.ensures.text ∙ c.in-Ok.ensures.cases.0) c.in-Ok.ensures.cases.1 c.report_text.ensures.told
+    let text_of : Document → List ℕ = λ d. d.text in
+    is_text (checked p.means) c.args.name.now c.args.bytes.now _ _ _ _ (ap text_of c.in-Ok-new.ensures.text ∙ c.in-Ok.ensures.cases.0) c.in-Ok.ensures.cases.1 c.report_text.ensures.told
