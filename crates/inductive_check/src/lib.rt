@@ -1,0 +1,9 @@
+//! Inductive types: the test of a declaration, and the entries that it gives, with the types of its
+//! eliminators.
+#![tactic(auto)]
+
+mod elimination;
+mod families;
+
+pub use elimination::eliminators;
+pub use families::check_inductive;
