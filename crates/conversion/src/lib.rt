@@ -2,12 +2,15 @@
 //! in units.
 #![tactic(auto)]
 
+mod blockers;
 mod cases;
 mod contractions;
 mod conversion;
 mod iota;
 mod lookups;
 mod reduction;
+mod sides;
+mod unfoldings;
 
 pub use conversion::conv;
 pub use reduction::whnf;
