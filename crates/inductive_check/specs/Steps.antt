@@ -59,6 +59,9 @@ param_at env calls ctx used h = do
 abbrev pub param_with : List Slot → List Hyp → List ℕ → Hyp → FuelState → Ran Params
 param_with env ctx used h f = param_at env (calls_left f) ctx used h (left f)
 
+abbrev pub opened_with : List Slot → Opened → Hyp → FuelState → Ran Params
+opened_with env o h f = param_with env o.ctx o.used h f
+
 abbrev pub open_with : List Slot → List Hyp → FuelState → Ran Params
 open_with env hs f = open_params env (calls_left f) hs [] [] (left f)
 

@@ -6,7 +6,7 @@ ghost use Rattle.cic_rules.specs.Judges.{Meets, MayJudge, check_inductive_with};
 ghost use Rattle.cic_rules.specs.Environments.{entered, IsNew, MayEnter};
 ghost use Rattle.cic_rules.specs.Eliminators.{type_of_decl as type_of};
 ghost use Rattle.cic_rules.specs.Declare.{IsChecked};
-ghost use Rattle.inductive_check.specs.Steps.{MeetsOpened, IsTypeOver, params_opened, sized, MeetsRows, param_with, open_with, ctor_with, rows_with, form_of as form_at, assumption_of, settled, behind_params_with, check_family_with};
+ghost use Rattle.inductive_check.specs.Steps.{MeetsOpened, IsTypeOver, params_opened, sized, MeetsRows, opened_with, open_with, ctor_with, rows_with, form_of as form_at, assumption_of, settled, behind_params_with, check_family_with};
 
 use crate::forms::{Form, are_positive, count_products, is_constructor};
 use crate::names::{any_taken, has_twice, names_of};
@@ -124,7 +124,7 @@ fn open_param<J: Judge>(
     fuel: &mut Fuel,
 ) -> Result<Opened, Stop>
     requires { MayJudge env.now opened.now.ctx }
-    ensures answer { MeetsOpened result (left fuel.new) (param_with env.now opened.now.ctx opened.now.used param.now fuel.old) }
+    ensures answer { MeetsOpened result (left fuel.new) (opened_with env.now opened.now param.now fuel.old) }
     ensures judged { IfOk result (λ o. MayJudge env.now o.ctx) }
     ensures kept { IsSpentOf fuel.old fuel.new }
 {
