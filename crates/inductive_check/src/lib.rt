@@ -4,6 +4,10 @@
 
 mod elimination;
 mod families;
+mod forms;
+mod names;
+mod parts;
+mod sorts;
 
 pub use elimination::eliminators;
 pub use families::check_inductive;
