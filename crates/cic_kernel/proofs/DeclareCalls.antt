@@ -5,6 +5,7 @@ use Rattle.core_term.specs.Tree.{Tree}
 use Rattle.cic_rules.specs.declared.decls.Decl.{Decl}
 use Rattle.cic_rules.specs.declared.decls.Decl.TheVariants.{Assume, Define, Admit, Induct}
 use Rattle.cic_rules.specs.declared.decls.InductiveDecl.{InductiveDecl}
+use Rattle.cic_rules.specs.declared.entries.EntryKind.{EntryKind}
 use Rattle.cic_rules.specs.declared.entries.EntryKind.TheVariants.{Assumed, Admitted, Defined}
 use Rattle.cic_rules.specs.declared.env.Slot.{Slot}
 use Rattle.cic_rules.specs.Declare.{declare_at}
@@ -63,14 +64,14 @@ module _ (env : List Slot) (asked : Decl) (f : FuelState) (result : Result (List
   family_meets d is meets = meets_by (Induct d) (induct_with env d f) is (induct_is env (calls_left f) (left f) d) meets
 
 -- a definition whose body was checked, and one whose type was inferred
-module _ (env : List Slot) (name : List ℕ) (ty body copy : Tree) (opaque : Bool) (us vs used : List ℕ) (new : IsNew env name) (copied : copy ≡ body)
-    (both : used ≡ union us vs) where
-  pub checked_enters : IsJudged 0 (length env) ty us → IsJudged 0 (length env) body vs → MayEnter env (entry_of name ty (Defined copy opaque) used)
+module _ (env : List Slot) (name : List ℕ) (ty body : Tree) (opaque : Bool) (kind : EntryKind) (us vs used : List ℕ) (new : IsNew env name)
+    (defined : kind ≡ Defined body opaque) (both : used ≡ union us vs) where
+  pub checked_enters : IsJudged 0 (length env) ty us → IsJudged 0 (length env) body vs → MayEnter env (entry_of name ty kind used)
   checked_enters first second =
-      rw (copied, both) (judged_may_enter.defined env name ty body opaque (union us vs) new
+      rw (defined, both) (judged_may_enter.defined env name ty body opaque (union us vs) new
       (judged_may_enter.first 0 (length env) ty us vs first second.names) (judged_may_enter.second 0 (length env) body us vs first.names second))
 
-  pub inferred_enters : IsJudged 0 (length env) body us → IsJudged 0 (length env) ty vs → MayEnter env (entry_of name ty (Defined copy opaque) used)
+  pub inferred_enters : IsJudged 0 (length env) body us → IsJudged 0 (length env) ty vs → MayEnter env (entry_of name ty kind used)
   inferred_enters first second =
-      rw (copied, both) (judged_may_enter.defined env name ty body opaque (union us vs) new
+      rw (defined, both) (judged_may_enter.defined env name ty body opaque (union us vs) new
       (judged_may_enter.second 0 (length env) ty us vs first.names second) (judged_may_enter.first 0 (length env) body us vs first second.names))

@@ -10,7 +10,7 @@ use crate::inference::{check, infer, refusal, sort_of};
 use crate::kernel::Kernel;
 use crate::names::unite;
 use base_core::refusal_codes::NAME_TAKEN;
-use base_core::{NumberList, Stop, Text};
+use base_core::{NoMem, NumberList, Stop, Text};
 use cic_rules::{Context, Decl, Entry, EntryKind, Fuel, GlobalEnv, InductiveDecl};
 use core_term::Term;
 use inductive_check::{check_inductive, eliminators};
@@ -103,8 +103,7 @@ fn define_checked(
     let sort = sort_of(alloc, env, &ctx, ty, fuel)?;
     let checked = check(alloc, env, &ctx, body, ty, fuel)?;
     let used = unite(alloc, sort.used, checked)?;
-    let body = body.share()?;
-    let kind = EntryKind::Defined { body, opaque };
+    let kind = defined(body, opaque)?;
     enter(alloc, env, name, ty, kind, used)
 }
 
@@ -126,9 +125,16 @@ fn define_inferred(
     let found = infer(alloc, env, &ctx, body, fuel)?;
     let sort = sort_of(alloc, env, &ctx, &found.ty, fuel)?;
     let used = unite(alloc, found.used, sort.used)?;
-    let body = body.share()?;
-    let kind = EntryKind::Defined { body, opaque };
+    let kind = defined(body, opaque)?;
     enter(alloc, env, name, &found.ty, kind, used)
+}
+
+/// A definition's kind, which shares its body.
+fn defined(body: &Term, opaque: bool) -> Result<EntryKind, NoMem>
+    ensures { IfOk result (λ kind. kind ≡ EntryKind.Defined body.now opaque) }
+{
+    let body = body.share()?;
+    Ok(EntryKind::Defined { body, opaque })
 }
 
 /// The environment with one more entry.

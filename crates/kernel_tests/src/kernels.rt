@@ -39,7 +39,7 @@ const TABLE: [Row; 17] = [
     // fun x : (fun y : Prop => y) a => x: the domain's type is a sort as it stands
     ("P0!a@0!", Ok("P0!a@P0!a@>"), 16, &[0]),
     // fun f : a -> a => f b
-    ("aa>0b@!", Ok("aa>a>"), 11, &[0, 1]),
+    ("aa>0b@!", Ok("aa>a>"), 9, &[0, 1]),
 ];
 
 fn assumed(alloc: Global, env: &GlobalEnv, name: &str, ty: &str) -> Result<GlobalEnv, Fail> {
