@@ -1,9 +1,8 @@
 -- Cases on a constructor's arguments: when values may be put in, and what is too large.
-use Rattle.std.specs.Prelude.{◌≡◌, ℕ, zero, suc, ◌+◌, ◌-◌, ◌^◌, ◌≤◌, ◌<◌, max, List, [], ◌∷◌, ◌++◌, length, take, drop, Bool, true, false, Option, Some, None, Result, Ok, Err, slice_get, if◌then◌else◌, refl}
+use Rattle.std.specs.Prelude.{◌≡◌, ℕ, zero, suc, ◌+◌, ◌-◌, ◌≤◌, ◌<◌, List, [], ◌∷◌, ◌++◌, length, take, drop, Bool, true, false, Some, None, Result, Ok, Err, slice_get, if◌then◌else◌, refl}
 use Rattle.std.proofs.Common.{arith, ap, sym, ◌∙◌, subst}
 use Rattle.std.proofs.lemmas.Bool.Decides.{nat_tests}
 use Rattle.core_term.specs.Tree.{Tree, Var, Sorted, Constant, Prod, Lam, LetIn, App, IsTerm, IsNumbered, free_bound, depth_of, size_of, is_small}
-use Rattle.core_term.specs.Places.{lift_of}
 use Rattle.core_term.specs.Answers.{within_limits, Gives}
 use Rattle.core_term.specs.declared.stops.TermStop.{TermStop}
 use Rattle.core_term.specs.declared.stops.TermStop.TheVariants.{TooLarge, NoMem}
@@ -13,9 +12,9 @@ use Rattle.term_spine.specs.SpineLaws.{AreOver, AreShallow}
 use Rattle.term_spine.proofs.Instantiations.{instantiate_numbered}
 use Rattle.term_spine.specs.declared.spines.Spine.{Spine}
 use Rattle.term_spine.specs.Spines.{IsSpineOf}
-use Rattle.term_spine.proofs.SpineFacts.{applied_too_large, size_applied, depth_applied, arguments_applied, no_arguments}
-use Rattle.term_spine.specs.Spine.{head_of, arguments_of, apply_all, shift, shift_all, eta_body}
-use Rattle.term_spine.specs.Instantiate.{values_under, instantiate, instantiate_all}
+use Rattle.term_spine.proofs.SpineFacts.{applied_too_large, arguments_applied, no_arguments}
+use Rattle.term_spine.specs.Spine.{arguments_of, apply_all, shift, shift_all, eta_body}
+use Rattle.term_spine.specs.Instantiate.{values_under, instantiate}
 use Rattle.cic_rules.specs.Families.{indices, recursive_call, case_applied_to}
 use Rattle.conversion.specs.Iota.{case_by, MayPutIn, MayPutInAll}
 

@@ -1,10 +1,10 @@
 -- When iota fires, and what it builds.
-use Rattle.std.specs.Prelude.{◌≡◌, ℕ, zero, suc, ◌+◌, ◌-◌, ◌^◌, ◌≤◌, ◌<◌, ◌==◌, max, List, [], ◌∷◌, ◌++◌, length, take, drop, Bool, true, false, Option, Some, None, Result, Ok, Err, slice_get, if◌then◌else◌, refl}
+use Rattle.std.specs.Prelude.{◌≡◌, ℕ, zero, suc, ◌+◌, ◌^◌, ◌≤◌, ◌<◌, ◌==◌, List, [], ◌∷◌, ◌++◌, length, take, drop, Bool, true, false, Option, Some, None, Ok, Err, slice_get, refl}
 use Rattle.std.proofs.Common.{arith, ap, sym, ◌∙◌, subst}
 use Rattle.std.proofs.lemmas.Bool.Decides.{nat_tests}
 use Rattle.base_core.specs.declared.refusals.Stop.{Stop}
 use Rattle.base_core.specs.declared.refusals.Stop.TheVariants.{Refused, Out, NoMem}
-use Rattle.core_term.specs.Tree.{Tree, Var, Sorted, Constant, Prod, Lam, LetIn, App, IsTerm, free_bound, depth_of, is_small}
+use Rattle.core_term.specs.Tree.{Tree, Var, Sorted, Constant, Prod, Lam, LetIn, App, IsTerm, free_bound, depth_of}
 use Rattle.term_spine.specs.SpineLaws.{AreOver, AreShallow}
 use Rattle.term_spine.specs.declared.spines.Spine.{Spine}
 use Rattle.term_spine.specs.Spines.{tree_of_spine, IsSpineOf}
@@ -14,11 +14,10 @@ use Rattle.cic_rules.specs.declared.decls.InductiveDecl.{InductiveDecl}
 use Rattle.cic_rules.specs.declared.env.Slot.{Slot}
 use Rattle.cic_rules.specs.declared.shapes.FamilyShape.{FamilyShape}
 use Rattle.cic_rules.specs.Environments.{decl_at, AreScopedCtors, IsEnvironment}
-use Rattle.cic_rules.specs.Families.{Family, eliminator_of, constructor_of, newest_first, case_applied, case_applied_to, iota_result, iota}
+use Rattle.cic_rules.specs.Families.{eliminator_of, constructor_of, newest_first, case_applied, case_applied_to, iota_result, iota}
 use Rattle.cic_rules.specs.Reduce.{contract, contract_iota}
 use Rattle.term_spine.specs.Spine.{head_of, arguments_of, apply_all, count_products}
 use Rattle.term_spine.specs.Globals.{mentions}
-use Rattle.cic_rules.specs.Runs.{Ran, Turn}
 use Rattle.cic_rules.specs.Scopes.{IsScoped, AreScoped}
 use Rattle.cic_rules.specs.Shapes.{recursive_of, recursive_in, shape_of, shape_if_any, shape_at}
 use Rattle.cic_rules.proofs.EnvironmentScopes.{decl_scoped}

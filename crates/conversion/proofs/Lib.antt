@@ -1,5 +1,13 @@
+pub mod BlockerLaws
 pub mod CaseLaws
+pub mod ConvertLaws
+pub mod ConvertScopes
+pub mod EtaLaws
 pub mod FireLaws
+pub mod HeadLaws
 pub mod LookupLaws
 pub mod ReduceLaws
+pub mod RoundLaws
+pub mod SideLaws
 pub mod TurnLaws
+pub mod UnfoldLaws

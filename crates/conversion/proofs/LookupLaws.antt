@@ -1,7 +1,7 @@
 -- When a lift may be called, and what a hypothesis speaks of.
-use Rattle.std.specs.Prelude.{◌≡◌, ℕ, zero, suc, ◌+◌, ◌^◌, ◌≤◌, ◌<◌, List, [], ◌∷◌, length, Option, Some, None, Ok, slice_get}
-use Rattle.std.proofs.Common.{arith, sym, ◌∙◌, ap, subst}
-use Rattle.core_term.specs.Tree.{Tree, IsTerm, IsNumbered, free_bound, depth_of}
+use Rattle.std.specs.Prelude.{◌≡◌, ℕ, zero, suc, ◌+◌, ◌^◌, ◌≤◌, List, [], ◌∷◌, length, Option, Some, None, Ok, slice_get}
+use Rattle.std.proofs.Common.{arith, ◌∙◌, ap, subst}
+use Rattle.core_term.specs.Tree.{Tree, IsTerm, IsNumbered, free_bound}
 use Rattle.core_term.specs.Places.{lift_of}
 use Rattle.core_term.specs.Answers.{within_limits}
 use Rattle.core_term.proofs.Bounds.{bounded-lifted}

@@ -1,5 +1,5 @@
 -- The loop of reduction: turns of spines are turns of their terms, which stay in scope and end.
-use Rattle.std.specs.Prelude.{◌≡◌, ℕ, zero, suc, ◌+◌, ◌-◌, ◌^◌, ◌≤◌, ◌<◌, List, [], ◌∷◌, ◌++◌, length, Bool, true, Option, Some, None, Result, Ok, Err, IfOk, slice_get, if◌then◌else◌, refl}
+use Rattle.std.specs.Prelude.{◌≡◌, ℕ, suc, ◌+◌, ◌^◌, ◌≤◌, ◌<◌, List, [], ◌∷◌, ◌++◌, length, Bool, true, Option, Some, None, Result, Ok, Err, IfOk, slice_get, if◌then◌else◌, refl}
 use Rattle.std.proofs.Common.{arith, ap, sym, ◌∙◌, subst}
 use Rattle.base_core.specs.declared.refusals.Stop.{Stop}
 use Rattle.base_core.specs.declared.refusals.Stop.TheVariants.{Refused, Out, NoMem}
@@ -18,15 +18,14 @@ use Rattle.cic_rules.specs.declared.shapes.FamilyShape.{FamilyShape}
 use Rattle.cic_rules.specs.Shapes.{shape_of, shape_if_any, shape_at}
 use Rattle.cic_rules.specs.Fuel.{FuelState, nested, left, calls_left, IsSpentOf}
 use Rattle.cic_rules.specs.Scopes.{IsScoped, AreScoped, IsScopedContext}
-use Rattle.cic_rules.specs.Runs.{Ran, Run, pure, give, Turn, Final, GoOn, runs}
-use Rattle.cic_rules.specs.Reduce.{redex_of, reduce_redex, reduce_step, whnf_at}
-use Rattle.cic_rules.specs.Laws.{Tells, Turned}
+use Rattle.cic_rules.specs.Runs.{Run, Turn, Final, GoOn}
+use Rattle.cic_rules.specs.Reduce.{reduce_step, whnf_at}
 use Rattle.cic_rules.specs.Judges.{Meets, IsNeverRefused, IsTermIn}
 use Rattle.cic_rules.proofs.FuelLaws.{IsTurn}
 use Rattle.cic_rules.proofs.ScopeLaws.{scoped_get, scoped_free}
 use Rattle.cic_rules.proofs.JudgeFuelLaws.{turn_reduce, fuel_of_reduction}
 use Rattle.cic_rules.proofs.JudgeScopes.{step_tells, scope_of_reduction}
-use Rattle.conversion.specs.Turns.{Turns, IsSpine, spine_step, major_step, loop_from}
+use Rattle.conversion.specs.Turns.{Turns, IsSpine, IsOkAs, EndsAs, spine_step, major_step, loop_from}
 use Rattle.conversion.specs.Lookups.{family_if_any}
 use Rattle.cic_rules.proofs.RunsLaws.{runs_go_on, runs_final, runs_stop}
 
@@ -96,6 +95,64 @@ module _ (env : List Slot) (delta : Bool) (calls : ℕ) (ctx : List Hyp) where
       let stopped : (step (tree_of_spine s) k).answer ≡ Err (Out limit) = sym (told.0 ∙ ap (λ r. r.answer) e) in
       let whole = sym way.same ∙ runs_stop step turns (tree_of_spine s) (Out limit) k stopped in
       (sym (ap (λ r. r.answer) whole), (told.1 ∙ ap (λ r. r.left) e) ∙ sym (ap (λ r. r.left) whole))
+
+  -- the same with the spine of what is reached
+  pub spine_last : (now : ℕ) → now ≡ calls → (s : Spine) (k : ℕ) (t : Tree) (l j : ℕ) → IsUnderWay s k t l →
+      Turns (Ok None) j (tree_of_spine s) (spine_step env delta now ctx s.head s.args k) → EndsAs IsSpineOf (Ok s) j (loop_from env delta calls ctx t l)
+  spine_last now one s k t l j way said =
+      let told = subst (λ n. Turns (Ok None) j (tree_of_spine s) (spine_step env delta n ctx s.head s.args k)) one said in
+      let e = ap (λ r. r k) (step_is s way.spine.head) in
+      let final : (step (tree_of_spine s) k).answer ≡ Ok (Final (tree_of_spine s)) = sym (told.0 ∙ ap (λ r. r.answer) e) in
+      let whole = sym way.same ∙ runs_final step turns (tree_of_spine s) (tree_of_spine s) k final in
+      subst (λ r. EndsAs IsSpineOf (Ok s) j r) (sym whole)
+      (record { whole = refl; small = way.spine.small; head = way.spine.head }, told.1 ∙ ap (λ r. r.left) e)
+
+  pub spine_stop : (now : ℕ) → now ≡ calls → (s : Spine) (k : ℕ) (t : Tree) (l : ℕ) (stop : Stop) (j : ℕ) → IsUnderWay s k t l →
+      Turns (Err stop) j (tree_of_spine s) (spine_step env delta now ctx s.head s.args k) → EndsAs {A = Spine} IsSpineOf (Err stop) j (loop_from env delta calls ctx t l)
+  spine_stop now one s k t l (Refused r) j way told = absurd told
+  spine_stop now one s k t l NoMem j way told = tt
+  spine_stop now one s k t l (Out limit) j way said = meets_stop now one s k t l (Out limit) j way said
+
+  reached_by : (s : Spine) (answer : Result Tree Stop) → IsOkAs IsSpineOf s answer → Ok (tree_of_spine s) ≡ answer
+  reached_by s (Ok u) is = ap Ok is.whole
+  reached_by s (Err stop) is = absurd is
+
+  -- what is left of a loop, by the spine that it reaches
+  pub meets_spine : (now : ℕ) → now ≡ calls → (s first : Spine) (u : Tree) (j k : ℕ) (t : Tree) (l : ℕ) → IsUnderWay first k t l → u ≡ tree_of_spine s →
+      EndsAs IsSpineOf (Ok s) j (loop_from env delta now ctx (tree_of_spine first) k) → Meets (Ok u) j (loop_from env delta calls ctx t l)
+  meets_spine now one s first u j k t l way same said =
+      let told = subst (λ n. EndsAs IsSpineOf (Ok s) j (loop_from env delta n ctx (tree_of_spine first) k)) one said in
+      let answer = reached_by s (loop_from env delta calls ctx (tree_of_spine first) k).answer told.0 in
+      ((ap Ok same ∙ answer) ∙ ap (λ r. r.answer) way.same, told.1 ∙ ap (λ r. r.left) way.same)
+
+  pub meets_spine_stop : (now : ℕ) → now ≡ calls → (first : Spine) (stop : Stop) (j k : ℕ) (t : Tree) (l : ℕ) → IsUnderWay first k t l →
+      EndsAs {A = Spine} IsSpineOf (Err stop) j (loop_from env delta now ctx (tree_of_spine first) k) → Meets {A = Tree} (Err stop) j (loop_from env delta calls ctx t l)
+  meets_spine_stop now one first (Refused r) j k t l way said = absurd said
+  meets_spine_stop now one first NoMem j k t l way said = tt
+  meets_spine_stop now one first (Out limit) j k t l way said =
+      let told = subst (λ n. EndsAs {A = Spine} IsSpineOf (Err (Out limit)) j (loop_from env delta n ctx (tree_of_spine first) k)) one said in
+      (told.0 ∙ ap (λ r. r.answer) way.same, told.1 ∙ ap (λ r. r.left) way.same)
+
+  pub never_spine_stop : (now : ℕ) (first : Spine) (stop : Stop) (j k : ℕ) →
+      EndsAs {A = Spine} IsSpineOf (Err stop) j (loop_from env delta now ctx (tree_of_spine first) k) → IsNeverRefused {A = Tree} (Err stop)
+  never_spine_stop now first (Refused r) j k said = said
+  never_spine_stop now first NoMem j k said = tt
+  never_spine_stop now first (Out limit) j k said = tt
+
+  pub spine_entered : (result : Result Spine Stop) (k : ℕ) (t : Tree) (l : ℕ) (all : ℕ) → all ≡ suc calls → EndsAs IsSpineOf result k (loop_from env delta calls ctx t l) →
+      EndsAs IsSpineOf result k (whnf_at env delta all ctx t l)
+  unfolding whnf_at
+  spine_entered result k t l all e ends = rw e ends
+
+  pub no_spine_calls : (k : ℕ) (t : Tree) (l : ℕ) (all : ℕ) → all ≡ 0 → k ≡ l → EndsAs {A = Spine} IsSpineOf (Err (Out DepthLimit)) k (whnf_at env delta all ctx t l)
+  unfolding whnf_at
+  no_spine_calls k t l all e same = rw e (refl, same)
+
+  pub spine_scoped : IsEnvironment env → IsScopedContext (length env) ctx → (result : Result Spine Stop) (t : Tree) (k l : ℕ) → IsTermIn env ctx t →
+      EndsAs IsSpineOf result k (whnf_at env delta calls ctx t l) → IfOk result (λ s. IsTermIn env ctx (tree_of_spine s))
+  spine_scoped is hyps (Ok s) t k l term ends =
+      (scope_of_reduction env is delta calls ctx hyps t term).tells l (tree_of_spine s) (sym (reached_by s (whnf_at env delta calls ctx t l).answer ends.0))
+  spine_scoped is hyps (Err stop) t k l term ends = tt
 
   pub never_stop : (now : ℕ) → now ≡ calls → (s : Spine) (k j : ℕ) (stop : Stop) → Turns (Err stop) j (tree_of_spine s) (spine_step env delta now ctx s.head s.args k) →
       IsNeverRefused {A = Tree} (Err stop)
@@ -226,3 +283,15 @@ entered_meets env delta ctx old entered after ended result t into room same meet
     let one = meets_entered env delta (calls_left entered) ctx result (left after) t (left entered) (calls_left old) calls meets in
     let two = subst (λ l. Meets result (left after) (whnf_at env delta (calls_left old) ctx t l)) units one in
     subst (λ k. Meets result k (whnf_at env delta (calls_left old) ctx t (left old))) (sym same) two
+
+pub entered_spine : (env : List Slot) (delta : Bool) (ctx : List Hyp) (old entered after ended : FuelState) (result : Result Spine Stop) (t : Tree) →
+    entered ≡ nested true old → old.nesting < 2000 → left ended ≡ left after →
+    EndsAs IsSpineOf result (left after) (loop_from env delta (calls_left entered) ctx t (left entered)) →
+    EndsAs IsSpineOf result (left ended) (whnf_at env delta (calls_left old) ctx t (left old))
+entered_spine env delta ctx old entered after ended result t into room same ends =
+    let nest : entered.nesting ≡ old.nesting + 1 = ap (λ f. f.nesting) into in
+    let calls : calls_left old ≡ suc (calls_left entered) = omega (arith, nest, room) in
+    let units : left entered ≡ left old = ap left into in
+    let one = spine_entered env delta (calls_left entered) ctx result (left after) t (left entered) (calls_left old) calls ends in
+    let two = subst (λ l. EndsAs IsSpineOf result (left after) (whnf_at env delta (calls_left old) ctx t l)) units one in
+    subst (λ k. EndsAs IsSpineOf result k (whnf_at env delta (calls_left old) ctx t (left old))) (sym same) two

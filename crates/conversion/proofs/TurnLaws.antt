@@ -1,11 +1,10 @@
 -- Contractions: what is paid, and how each ends.
-use Rattle.std.specs.Prelude.{◌≡◌, ℕ, ◌+◌, ◌-◌, ◌^◌, ◌≤◌, ◌<◌, nat_le, List, Result, Ok, Err, true, false, if◌then◌else◌, refl}
+use Rattle.std.specs.Prelude.{◌≡◌, ℕ, ◌+◌, ◌-◌, ◌^◌, ◌≤◌, ◌<◌, nat_le, List, Ok, Err, true, false, if◌then◌else◌, refl}
 use Rattle.std.proofs.Common.{arith, ap, ◌∙◌}
 use Rattle.std.proofs.lemmas.Bool.Decides.{nat_tests}
-use Rattle.base_core.specs.declared.refusals.Stop.{Stop}
 use Rattle.base_core.specs.declared.refusals.Stop.TheVariants.{Out}
-use Rattle.base_core.specs.declared.refusals.Limit.TheVariants.{StepLimit, SizeLimit}
-use Rattle.core_term.specs.Tree.{Tree, IsTerm, IsNumbered, free_bound, depth_of, is_small}
+use Rattle.base_core.specs.declared.refusals.Limit.TheVariants.{StepLimit}
+use Rattle.core_term.specs.Tree.{Tree, IsTerm, IsNumbered, free_bound, is_small}
 use Rattle.core_term.specs.Places.{subst_of}
 use Rattle.core_term.specs.Answers.{within_limits, Gives}
 use Rattle.core_term.specs.Stops.{stop_of}
@@ -14,7 +13,7 @@ use Rattle.core_term.specs.declared.stops.TermStop.TheVariants.{TooLarge, NoMem}
 use Rattle.core_term.proofs.FreeVariables.{numbered-substituted}
 use Rattle.term_spine.specs.Spine.{apply_all}
 use Rattle.term_spine.specs.declared.spines.Spine.{Spine}
-use Rattle.term_spine.specs.Spines.{IsSpineOf, GivesSpine}
+use Rattle.term_spine.specs.Spines.{GivesSpine}
 use Rattle.term_spine.proofs.SpineFacts.{applied_too_large}
 use Rattle.cic_rules.specs.Runs.{GoOn}
 use Rattle.cic_rules.specs.Reduce.{contract}

@@ -1,5 +1,5 @@
 -- Iota, by what was told of an inductive type once; and when values may be put into a type.
-use Rattle.std.specs.Prelude.{◌≡◌, Result, Ok, Err, true, ℕ, ◌+◌, ◌^◌, ◌≤◌, List, [], ◌∷◌, length, take, drop, Bool}
+use Rattle.std.specs.Prelude.{Result, Ok, Err, ℕ, ◌+◌, ◌^◌, ◌≤◌, List, [], ◌∷◌, length, take, drop, Bool}
 use Rattle.base_core.specs.declared.refusals.Stop.{Stop}
 use Rattle.base_core.specs.declared.refusals.Stop.TheVariants.{NoMem}
 use Rattle.core_term.specs.Tree.{Tree, Prod, depth_of, free_bound}

@@ -6,7 +6,7 @@ use Rattle.core_term.specs.Tree.{Tree, Constant, is_small}
 use Rattle.core_term.specs.Places.{subst_of}
 use Rattle.term_spine.specs.Spine.{IsHead, apply_all}
 use Rattle.term_spine.specs.declared.spines.Spine.{Spine}
-use Rattle.term_spine.specs.Spines.{tree_of_spine}
+use Rattle.term_spine.specs.Spines.{tree_of_spine, IsSpineOf}
 use Rattle.cic_rules.specs.declared.context.Hyp.{Hyp}
 use Rattle.cic_rules.specs.declared.env.Slot.{Slot}
 use Rattle.cic_rules.specs.Families.{iota}
@@ -59,6 +59,22 @@ Takes result old new s run = Turns result (left new) (tree_of_spine s) (run s (l
 -- a call reduces as a run does
 abbrev pub Reduces : Result Tree Stop → FuelState → FuelState → Run Tree → Type 0
 Reduces result old new run = Meets result (left new) (run (left old))
+
+-- what a call gives stands for a run's value
+abbrev pub IsOkAs : {A B : Type 0} → (A → B → Type 0) → A → Result B Stop → Type 0
+IsOkAs R x (Ok y) = R x y
+IsOkAs R x (Err stop) = ⊥
+
+-- a call ends as a run does, with what stands for its value, unless memory runs out. It is never refused
+abbrev pub EndsAs : {A B : Type 0} → (A → B → Type 0) → Result A Stop → ℕ → Ran B → Type 0
+EndsAs R (Ok x) left ran = IsOkAs R x ran.answer × (left ≡ ran.left)
+EndsAs R (Err (Refused r)) left ran = ⊥
+EndsAs R (Err (Out l)) left ran = (Err (Out l) ≡ ran.answer) × (left ≡ ran.left)
+EndsAs R (Err NoMem) left ran = Unit {0}
+
+-- a call ends with the spine of what a run gives
+abbrev pub ReducesTo : Result Spine Stop → FuelState → FuelState → Run Tree → Type 0
+ReducesTo result old new run = EndsAs IsSpineOf result (left new) (run (left old))
 
 module _ (env : List Slot) (delta : Bool) (ctx : List Hyp) (f : FuelState) where
   -- on some fuel: the turn of a spine, and of one whose head is the global at a place

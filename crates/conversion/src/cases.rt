@@ -118,7 +118,7 @@ fn values_under(alloc: Global, values: &SharedList<Term>) -> Result<SharedList<T
 }
 
 /// A function one binder deeper, applied to the variable of that binder.
-fn eta_body(alloc: Global, function: &Term) -> Result<Term, TermStop>
+pub(crate) fn eta_body(alloc: Global, function: &Term) -> Result<Term, TermStop>
     requires { free_bound function.now ≤ 2 ^ 31 + 2000 }
     ensures { Gives result (within_limits (body_of_eta function.now)) }
 {

@@ -1,10 +1,16 @@
-//! What terms are by the rules of reduction: weak head form, with its exact cost in units.
+//! What terms are by the rules of reduction: weak head form and conversion, with their exact cost
+//! in units.
 #![tactic(auto)]
 
+mod blockers;
 mod cases;
 mod contractions;
+mod conversion;
 mod iota;
 mod lookups;
 mod reduction;
+mod sides;
+mod unfoldings;
 
+pub use conversion::conv;
 pub use reduction::whnf;

@@ -7,7 +7,7 @@ ghost use Rattle.cic_rules.specs.Families.{eliminator_of};
 ghost use Rattle.cic_rules.specs.Fuel.{IsSpentOf};
 ghost use Rattle.cic_rules.specs.Judges.{MayJudge, IsTermIn, IsNeverRefused};
 ghost use Rattle.conversion.specs.Lookups.{family_if_any};
-ghost use Rattle.conversion.specs.Turns.{Takes, Reduces, IsSpine, global_turn, spine_turn, by_major, loop_of, reduce_of};
+ghost use Rattle.conversion.specs.Turns.{Takes, Reduces, ReducesTo, IsSpine, global_turn, spine_turn, by_major, loop_of, reduce_of};
 
 use crate::contractions::{beta, put_in, unfold};
 use crate::iota::{fire, spine_of_term};
@@ -46,8 +46,34 @@ pub fn whnf(
     reduced
 }
 
+/// The same of a term that stands as its head with its arguments, and so is the answer. A spine to
+/// which no rule applies is given back as it is, and nothing of it is walked.
+pub(crate) fn whnf_spine(
+    alloc: Global,
+    env: &GlobalEnv,
+    ctx: &Context,
+    spine: Spine,
+    delta: bool,
+    fuel: &mut Fuel,
+) -> Result<Spine, Stop>
+    requires judged { MayJudge env.now ctx.now }
+    requires term { IsTermIn env.now ctx.now (tree_of_spine spine) }
+    requires spine { IsSpine spine }
+    ensures answer { ReducesTo result fuel.old fuel.new (reduce_of env.now delta ctx.now fuel.old (tree_of_spine spine)) }
+    ensures scoped { IfOk result (λ s. IsTermIn env.now ctx.now (tree_of_spine s)) }
+    ensures kept { IsSpentOf fuel.old fuel.new }
+{
+    let _globals = env.len();
+    if !fuel.enter() {
+        return Err(Stop::Out(Limit::DepthLimit));
+    }
+    let reduced = reduce_spine(alloc, env, ctx, spine, delta, fuel);
+    fuel.leave();
+    reduced
+}
+
 /// The term of a spine, which is not too large.
-fn term_of_spine(alloc: Global, spine: &Spine) -> Result<Term, NoMem>
+pub(crate) fn term_of_spine(alloc: Global, spine: &Spine) -> Result<Term, NoMem>
     requires { IsSpine spine.now }
     ensures { IfOk result (λ t. t ≡ tree_of_spine spine.now) }
 {
@@ -79,34 +105,39 @@ fn reduce(
             let same = t.share()?;
             Ok(same)
         }
-        Ok(Some(next)) => reduce_on(alloc, env, ctx, next, delta, fuel),
+        Ok(Some(next)) => match reduce_spine(alloc, env, ctx, next, delta, fuel) {
+            Ok(spine) => {
+                let whole = term_of_spine(alloc, &spine)?;
+                Ok(whole)
+            }
+            Err(stop) => Err(stop),
+        },
         Err(stop) => Err(stop),
     }
 }
 
+/// Turns from a spine on, until no rule applies.
 #[cycle(reduction)]
-fn reduce_on(
+fn reduce_spine(
     alloc: Global,
     env: &GlobalEnv,
     ctx: &Context,
     spine: Spine,
     delta: bool,
     fuel: &mut Fuel,
-) -> Result<Term, Stop>
+) -> Result<Spine, Stop>
     requires environment { IsEnvironment env.now }
     requires judged { MayJudge env.now ctx.now }
     requires term { IsTermIn env.now ctx.now (tree_of_spine spine) }
     requires spine { IsSpine spine }
-    ensures answer { Reduces result fuel.old fuel.new (loop_of env.now delta ctx.now fuel.old (tree_of_spine spine)) }
-    ensures never_refused { IsNeverRefused result }
+    ensures answer { ReducesTo result fuel.old fuel.new (loop_of env.now delta ctx.now fuel.old (tree_of_spine spine)) }
     ensures kept { IsSpentOf fuel.old fuel.new }
 {
     let mut spine = spine;
     while let Some(next) = turn(alloc, env, ctx, &spine, delta, fuel)? {
         spine = next;
     }
-    let whole = term_of_spine(alloc, &spine)?;
-    Ok(whole)
+    Ok(spine)
 }
 
 /// One turn: what the spine becomes, or none where no rule applies.

@@ -6,6 +6,8 @@ mod families;
 #[cfg(test)]
 mod judges;
 #[cfg(test)]
+mod kernels;
+#[cfg(test)]
 mod notation;
 #[cfg(test)]
 mod rules;

@@ -1,12 +1,8 @@
-use Rattle.std.proofs.Common.{◌≡◌, ◌∙◌, sym, ap, subst, arith, rules, Ok, Err, List, ℕ, ◌∷◌, ◌+◌, ◌-◌, ◌<◌, length, take, drop}
-use Rattle.std.specs.Prelude.{IfOk}
-use Rattle.core_term.specs.Tree.{Tree, App, Prod}
-use Rattle.core_term.specs.Nodes.{tree_of}
+use Rattle.std.proofs.Common.{sym, ap, subst}
 use Rattle.core_term.specs.Answers.{within_limits, Gives}
-use Rattle.term_spine.specs.Spine.{apply_all, shift_all}
-use Rattle.term_spine.specs.Instantiate.{instantiate, instantiate_all, values_under}
-use Rattle.cic_rules.specs.Families.{newest_first, indices, recursive_call}
-use Rattle.conversion.specs.Iota.{MayPutIn, MayPutInAll}
+use Rattle.term_spine.specs.Spine.{apply_all}
+use Rattle.term_spine.specs.Instantiate.{instantiate_all}
+use Rattle.conversion.specs.Iota.{MayPutInAll}
 use Rattle.conversion.proofs.CaseLaws as law
 use Rattle.conversion.proofs.cases.called_with.Goals as goal
 

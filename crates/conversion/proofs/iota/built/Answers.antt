@@ -1,13 +1,10 @@
-use Rattle.std.proofs.Common.{◌≡◌, ◌≤◌, ◌∙◌, refl, sym, ap, subst, arith, Some, None, Err, Bool, List, [], ◌+◌, length, true, false, take, drop}
-use Rattle.std.specs.Prelude.{◌==◌, slice_get}
-use Rattle.std.proofs.lemmas.Result.{err_from_is_err_and}
-use Rattle.core_term.specs.Tree.{Tree, free_bound}
+use Rattle.std.proofs.Common.{◌≡◌, ◌≤◌, ◌∙◌, refl, sym, ap, subst, Err, [], take}
+use Rattle.core_term.specs.Tree.{free_bound}
 use Rattle.term_spine.specs.SpineLaws.{AreOver}
-use Rattle.term_spine.specs.Spines.{GivesSpine, tree_of_spine}
-use Rattle.cic_rules.specs.Fuel.{left}
+use Rattle.term_spine.specs.Spines.{GivesSpine}
 use Rattle.term_spine.specs.Spine.{apply_all}
-use Rattle.cic_rules.specs.Families.{newest_first, constructor_of, iota}
-use Rattle.conversion.specs.Iota.{case_by, iota_by, MayPutIn, MayBuild}
+use Rattle.cic_rules.specs.Families.{newest_first}
+use Rattle.conversion.specs.Iota.{case_by, MayPutIn}
 use Rattle.conversion.proofs.FireLaws as law
 use Rattle.conversion.proofs.CaseLaws.{same_term}
 use Rattle.conversion.proofs.TurnLaws.{part_stop}

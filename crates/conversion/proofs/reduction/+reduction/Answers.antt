@@ -1,4 +1,4 @@
-use Rattle.std.proofs.Common.{◌≡◌, ◌≤◌, ◌<◌, ◌∷◌, ◌∙◌, refl, sym, ap, subst, arith, rules, length, true, Some, Ok}
+use Rattle.std.proofs.Common.{◌≡◌, ◌≤◌, ◌<◌, ◌∷◌, ◌∙◌, refl, sym, ap, subst, arith, rules, length, true, Some}
 use Rattle.std.specs.Prelude.{slice_get}
 use Rattle.core_term.specs.Tree.{Lam, LetIn}
 use Rattle.core_term.specs.Nodes.{tree_of}
@@ -8,7 +8,7 @@ use Rattle.conversion.specs.Lookups.{family_if_any}
 use Rattle.std.proofs.lemmas.Result.{err_from_is_err_and}
 use Rattle.term_spine.specs.Spines.{tree_of_spine}
 use Rattle.cic_rules.specs.Fuel.{left, calls_left, nested}
-use Rattle.conversion.proofs.ReduceLaws.{IsUnderWay, meets_step, meets_last, meets_stop, meets_rest, meets_entered, no_calls, entered_meets, step_takes, begun, reduced_scoped, shaped_turn, argument_scoped, lam_body, first_bound, let_body, let_value, same_calls, spent_more, is_spine, none_is}
+use Rattle.conversion.proofs.ReduceLaws.{meets_step, meets_last, meets_stop, spine_last, spine_stop, meets_spine, meets_spine_stop, no_calls, entered_meets, step_takes, begun, reduced_scoped, shaped_turn, argument_scoped, lam_body, first_bound, let_body, let_value, same_calls, spent_more, is_spine, none_is}
 use Rattle.conversion.proofs.reduction.+reduction.Goals as goal
 
 pub reduce-returns-in-Ok-None-clause-answer : goal.reduce-returns-in-Ok-None-clause-answer
@@ -20,8 +20,8 @@ reduce-returns-in-Ok-None-clause-answer t c =
     meets_last c.args.env.now c.args.delta (calls_left c.args.fuel.now) c.args.ctx.now (calls_left c.args.fuel.now) refl c.in_ok-first.first (left c.args.fuel.now)
     c.args.t.now (left c.args.fuel.now) c.in_ok-same-in-Ok-None.same (left c.turn.new.fuel) way (c.in_ok-same-in-Ok-None.ensures ∙ sym of.whole) told
 
-pub reduce-reduce_on-requires : goal.reduce-reduce_on-requires
-reduce-reduce_on-requires t c =
+pub reduce-reduce_spine-requires : goal.reduce-reduce_spine-requires
+reduce-reduce_spine-requires t c =
     let of = c.in_ok-first.ensures in
     let told = rw c.in-Ok-Some.field-0-is at c.in-Ok-Some.ensures.answer in
     let way = begun c.args.env.now c.args.delta (calls_left c.args.fuel.now) c.args.ctx.now c.in_ok-first.first c.args.t.now (left c.args.fuel.now)
@@ -29,17 +29,6 @@ reduce-reduce_on-requires t c =
     let next = meets_step c.args.env.now c.args.delta (calls_left c.args.fuel.now) c.args.ctx.now (calls_left c.args.fuel.now) refl c.requires.environment
     c.requires.judged.scoped c.in_ok-first.first (left c.args.fuel.now) c.args.t.now (left c.args.fuel.now) c.in-Ok-Some.next (left c.turn.new.fuel) way told in
     ((search rules), (c.requires.environment, (c.requires.judged, (next.term, next.spine))))
-
-pub reduce-returns-in-Ok-Some-clause-answer : goal.reduce-returns-in-Ok-Some-clause-answer
-reduce-returns-in-Ok-Some-clause-answer t c =
-    let of = c.in_ok-first.ensures in
-    let told = rw c.in-Ok-Some.field-0-is at c.in-Ok-Some.ensures.answer in
-    let way = begun c.args.env.now c.args.delta (calls_left c.args.fuel.now) c.args.ctx.now c.in_ok-first.first c.args.t.now (left c.args.fuel.now)
-    of.whole (is_spine _ _ of) c.requires.term in
-    let next = meets_step c.args.env.now c.args.delta (calls_left c.args.fuel.now) c.args.ctx.now (calls_left c.args.fuel.now) refl c.requires.environment
-    c.requires.judged.scoped c.in_ok-first.first (left c.args.fuel.now) c.args.t.now (left c.args.fuel.now) c.in-Ok-Some.next (left c.turn.new.fuel) way told in
-    meets_rest c.args.env.now c.args.delta (calls_left c.args.fuel.now) c.args.ctx.now (calls_left c.turn.new.fuel) (same_calls _ _ c.turn.ensures.kept)
-    c.reduce_on.result (left c.reduce_on.new.fuel) c.in-Ok-Some.next (left c.turn.new.fuel) c.args.t.now (left c.args.fuel.now) next c.reduce_on.ensures.answer
 
 pub reduce-returns-clause-answer : goal.reduce-returns-clause-answer
 reduce-returns-clause-answer t c =
@@ -49,22 +38,22 @@ reduce-returns-clause-answer t c =
     meets_stop c.args.env.now c.args.delta (calls_left c.args.fuel.now) c.args.ctx.now (calls_left c.args.fuel.now) refl c.in_ok-first.first (left c.args.fuel.now)
     c.args.t.now (left c.args.fuel.now) c.in-Err.stop (left c.turn.new.fuel) way c.in-Err.ensures.answer
 
-pub reduce_on-returns-in_err-next-clause-answer : goal.reduce_on-returns-in_err-next-clause-answer
-reduce_on-returns-in_err-next-clause-answer t c =
+pub reduce_spine-returns-in_err-next-clause-answer : goal.reduce_spine-returns-in_err-next-clause-answer
+reduce_spine-returns-in_err-next-clause-answer t c =
     let p = err_from_is_err_and c.from_residual.result c.from_residual.ensures.1 in
     rw (p.1, p.2)
-    (meets_stop c.args.env.now c.args.delta (calls_left c.args.fuel.now) c.args.ctx.now (calls_left c.loop-spine.fuel) (same_calls _ _ c.loop-spine.invariant.spent)
+    (spine_stop c.args.env.now c.args.delta (calls_left c.args.fuel.now) c.args.ctx.now (calls_left c.loop-spine.fuel) (same_calls _ _ c.loop-spine.invariant.spent)
     c.loop-spine.spine (left c.loop-spine.fuel) (tree_of_spine c.args.spine) (left c.args.fuel.now) c.in_err-next.field-0.0 (left c.turn.new.fuel)
     c.loop-spine.invariant.way c.in_err-next.ensures.answer)
 
-pub reduce_on-loop-spine-smaller : goal.reduce_on-loop-spine-smaller
-reduce_on-loop-spine-smaller t c =
+pub reduce_spine-loop-spine-smaller : goal.reduce_spine-loop-spine-smaller
+reduce_spine-loop-spine-smaller t c =
     let told = rw c.in-Some.is at c.in_ok-next.ensures.answer in
     step_takes c.args.env.now c.args.delta (calls_left c.args.fuel.now) c.args.ctx.now (calls_left c.loop-spine.fuel) (same_calls _ _ c.loop-spine.invariant.spent)
     c.loop-spine.spine (left c.loop-spine.fuel) (left c.turn.new.fuel) c.in-Some.next c.loop-spine.invariant.way.spine.head told
 
-pub reduce_on-loop-spine-preserved : goal.reduce_on-loop-spine-preserved
-reduce_on-loop-spine-preserved t c =
+pub reduce_spine-loop-spine-preserved : goal.reduce_spine-loop-spine-preserved
+reduce_spine-loop-spine-preserved t c =
     let told = rw c.in-Some.is at c.in_ok-next.ensures.answer in
     record {
       way = meets_step c.args.env.now c.args.delta (calls_left c.args.fuel.now) c.args.ctx.now (calls_left c.loop-spine.fuel) (same_calls _ _ c.loop-spine.invariant.spent)
@@ -73,12 +62,11 @@ reduce_on-loop-spine-preserved t c =
       spent = spent_more _ _ _ c.loop-spine.invariant.spent c.turn.ensures.kept;
     }
 
-pub reduce_on-returns-clause-answer : goal.reduce_on-returns-clause-answer
-reduce_on-returns-clause-answer t c =
+pub reduce_spine-returns-clause-answer : goal.reduce_spine-returns-clause-answer
+reduce_spine-returns-clause-answer t c =
     let told = rw (none_is _ c.in_default.not-Some) at c.in_ok-next.ensures.answer in
-    meets_last c.args.env.now c.args.delta (calls_left c.args.fuel.now) c.args.ctx.now (calls_left c.loop-spine.fuel) (same_calls _ _ c.loop-spine.invariant.spent)
-    c.loop-spine.spine (left c.loop-spine.fuel) (tree_of_spine c.args.spine) (left c.args.fuel.now) c.in_ok-whole.whole (left c.turn.new.fuel)
-    c.loop-spine.invariant.way c.in_ok-whole.ensures told
+    spine_last c.args.env.now c.args.delta (calls_left c.args.fuel.now) c.args.ctx.now (calls_left c.loop-spine.fuel) (same_calls _ _ c.loop-spine.invariant.spent)
+    c.loop-spine.spine (left c.loop-spine.fuel) (tree_of_spine c.args.spine) (left c.args.fuel.now) (left c.turn.new.fuel) c.loop-spine.invariant.way told
 
 pub turn-beta-requires-clause-body : goal.turn-beta-requires-clause-body
 turn-beta-requires-clause-body t c =
@@ -148,3 +136,27 @@ whnf-returns-clause-scoped t c =
     let meets = whnf-returns-clause-answer t c in
     reduced_scoped c.args.env.now c.args.delta (calls_left c.args.fuel.now) c.args.ctx.now c.len-globals.ensures.environment c.requires.judged.scoped
     c.reduce-reduced.result c.args.t.now (left c.leave.new.self) (left c.args.fuel.now) c.requires.term meets
+
+pub reduce-returns-in-Ok-clause-answer : goal.reduce-returns-in-Ok-clause-answer
+reduce-returns-in-Ok-clause-answer t c =
+    let of = c.in_ok-first.ensures in
+    let told = rw c.in-Ok-Some.field-0-is at c.in-Ok-Some.ensures.answer in
+    let way = begun c.args.env.now c.args.delta (calls_left c.args.fuel.now) c.args.ctx.now c.in_ok-first.first c.args.t.now (left c.args.fuel.now)
+    of.whole (is_spine _ _ of) c.requires.term in
+    let next = meets_step c.args.env.now c.args.delta (calls_left c.args.fuel.now) c.args.ctx.now (calls_left c.args.fuel.now) refl c.requires.environment
+    c.requires.judged.scoped c.in_ok-first.first (left c.args.fuel.now) c.args.t.now (left c.args.fuel.now) c.in-Ok-Some.next (left c.turn.new.fuel) way told in
+    meets_spine c.args.env.now c.args.delta (calls_left c.args.fuel.now) c.args.ctx.now (calls_left c.turn.new.fuel) (same_calls _ _ c.turn.ensures.kept)
+    c.in-Ok.spine c.in-Ok-Some.next c.in_ok-whole-in-Ok.whole (left c.reduce_spine.new.fuel) (left c.turn.new.fuel) c.args.t.now (left c.args.fuel.now) next
+    c.in_ok-whole-in-Ok.ensures c.in-Ok.ensures.answer
+
+pub reduce-returns-in-Ok-Some-clause-answer : goal.reduce-returns-in-Ok-Some-clause-answer
+reduce-returns-in-Ok-Some-clause-answer t c =
+    let of = c.in_ok-first.ensures in
+    let told = rw c.in-Ok-Some.field-0-is at c.in-Ok-Some.ensures.answer in
+    let way = begun c.args.env.now c.args.delta (calls_left c.args.fuel.now) c.args.ctx.now c.in_ok-first.first c.args.t.now (left c.args.fuel.now)
+    of.whole (is_spine _ _ of) c.requires.term in
+    let next = meets_step c.args.env.now c.args.delta (calls_left c.args.fuel.now) c.args.ctx.now (calls_left c.args.fuel.now) refl c.requires.environment
+    c.requires.judged.scoped c.in_ok-first.first (left c.args.fuel.now) c.args.t.now (left c.args.fuel.now) c.in-Ok-Some.next (left c.turn.new.fuel) way told in
+    meets_spine_stop c.args.env.now c.args.delta (calls_left c.args.fuel.now) c.args.ctx.now (calls_left c.turn.new.fuel) (same_calls _ _ c.turn.ensures.kept)
+    c.in-Ok-Some.next c.in-Err-reduce_spine.stop (left c.reduce_spine.new.fuel) (left c.turn.new.fuel) c.args.t.now (left c.args.fuel.now) next
+    c.in-Err-reduce_spine.ensures.answer

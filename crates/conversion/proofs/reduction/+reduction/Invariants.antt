@@ -10,8 +10,8 @@ decreases-whnf l = calls_left l.fuel.now * 10
 abbrev pub decreases-reduce : goal.decreases-reduce
 decreases-reduce l = calls_left l.fuel.now * 10 + 9
 
-abbrev pub decreases-reduce_on : goal.decreases-reduce_on
-decreases-reduce_on l = calls_left l.fuel.now * 10 + 8
+abbrev pub decreases-reduce_spine : goal.decreases-reduce_spine
+decreases-reduce_spine l = calls_left l.fuel.now * 10 + 8
 
 abbrev pub decreases-turn : goal.decreases-turn
 decreases-turn l = calls_left l.fuel.now * 10 + 7
@@ -22,11 +22,11 @@ decreases-turn_constant l = calls_left l.fuel.now * 10 + 6
 abbrev pub decreases-turn_eliminator : goal.decreases-turn_eliminator
 decreases-turn_eliminator l = calls_left l.fuel.now * 10 + 5
 
-abbrev pub invariant-reduce_on-loop-spine : goal.invariant-reduce_on-loop-spine
-invariant-reduce_on-loop-spine l = record {
+abbrev pub invariant-reduce_spine-loop-spine : goal.invariant-reduce_spine-loop-spine
+invariant-reduce_spine-loop-spine l = record {
   way : IsUnderWay l.env l.delta (calls_left l.fn.fuel) l.ctx l.spine (left l.fuel) (tree_of_spine l.fn.spine) (left l.fn.fuel);
   spent : IsSpentOf l.fn.fuel l.fuel;
 }
 
-abbrev pub decreases-reduce_on-loop-spine : goal.decreases-reduce_on-loop-spine
-decreases-reduce_on-loop-spine l = left l.fuel
+abbrev pub decreases-reduce_spine-loop-spine : goal.decreases-reduce_spine-loop-spine
+decreases-reduce_spine-loop-spine l = left l.fuel

@@ -1,0 +1,9 @@
+//! The kernel: inference of types, checks, and what may be declared.
+#![tactic(auto)]
+
+mod declarations;
+mod inference;
+mod kernel;
+mod names;
+
+pub use kernel::{Kernel, check};
