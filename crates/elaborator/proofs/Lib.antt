@@ -5,3 +5,4 @@ pub mod InsideLaws
 pub mod LoopLaws
 pub mod CycleLaws
 pub mod FuelOfElab
+pub mod ConstructorLaws

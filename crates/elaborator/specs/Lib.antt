@@ -5,4 +5,5 @@ pub mod Arrangement
 pub mod Rows
 pub mod Elab
 pub mod Calls
+pub mod Constructors
 pub mod Laws

@@ -4,6 +4,7 @@
 mod arrangement;
 mod binders;
 mod calls;
+mod constructors;
 mod elaborate;
 mod laws;
 mod names;
@@ -13,4 +14,5 @@ mod spine;
 
 pub use binders::{Binding, close};
 pub use calls::{elab, open_groups};
+pub use constructors::elab_constructor;
 pub use laws::law_of_fuel;
