@@ -1,0 +1,5 @@
+use Rattle.std.proofs.Common.{◌≡◌, ◌+◌, ◌-◌, ◌++◌, length, drop, take, List, [], ◌∷◌, ℕ}
+use Rattle.elaborator.proofs.arrangement.followed.Given as goal
+
+abbrev pub invariant-loop-k : goal.invariant-loop-k
+invariant-loop-k l = l.all ++ drop l.k-index l.ks ≡ l.fn.done ++ l.ks
