@@ -1,9 +1,9 @@
 -- How the calls of inference meet the definitions.
-use Rattle.std.proofs.Common.{◌≡◌, ℕ, zero, suc, ◌+◌, ◌<◌, ◌≤◌, List, ◌∷◌, length, Bool, true, false, Result, Ok, Err, refl, sym, ap, subst, ◌∙◌, arith}
-use Rattle.std.specs.Prelude.{IfOk, ◌^◌, ◌-◌, if◌then◌else◌}
+use Rattle.std.proofs.Common.{◌≡◌, ℕ, zero, suc, ◌+◌, ◌<◌, ◌≤◌, List, length, Bool, true, false, Result, Ok, Err, refl, sym, ap, subst, ◌∙◌, arith}
+use Rattle.std.specs.Prelude.{IfOk, ◌^◌, if◌then◌else◌}
 use Rattle.base_core.specs.Answers.{Gives as Makes}
 use Rattle.base_core.specs.declared.refusals.Stop.{Stop}
-use Rattle.base_core.specs.declared.refusals.Stop.TheVariants.{Refused, Out, NoMem}
+use Rattle.base_core.specs.declared.refusals.Stop.TheVariants.{Out}
 use Rattle.base_core.specs.declared.refusals.Limit.TheVariants.{DepthLimit, SizeLimit}
 use Rattle.core_term.specs.Answers.{within_limits, Gives}
 use Rattle.core_term.specs.Nodes.{tree_of}
@@ -34,7 +34,7 @@ use Rattle.cic_rules.proofs.JudgeScopes.{scope_of_inference, scope_of_sorts, sco
 use Rattle.cic_rules.proofs.ScopeLaws.{scoped_free}
 use Rattle.cic_rules.proofs.UsedLaws.{names_union}
 use Rattle.conversion.proofs.ReduceLaws.{same_calls}
-use Rattle.cic_kernel.specs.Inference.{table_at, table_with, begun_with, as_arrow_with, sized, IsArrowIn}
+use Rattle.cic_kernel.specs.Inference.{table_at, table_of, begun_with, as_arrow_with, sized, IsArrowIn}
 
 -- no judgement may be begun
 pub no_calls : (env : List Slot) (ctx : List Hyp) (t : Tree) (f : FuelState) (units : ℕ) → 2000 ≤ f.nesting → units ≡ left f →
@@ -122,12 +122,12 @@ pub function_meets : (env : List Slot) (ctx inner : List Hyp) (n : List ℕ) (a 
     (f0 f1 f2 f3 : FuelState) → Meets (Ok s) (left f1) (sort_of_with env ctx a f0) → IsSpentOf f0 f1 → Ok inner ≡ extended ctx (plain_hyp n a) →
     Meets (Ok i) (left f2) (infer_with env inner b f1) → IsSpentOf f1 f2 → Meets (Ok r) (left f3) (sort_of_with env inner i.ty f2) →
     Gives (Ok ty) (within_limits (Prod n a i.ty)) → under ≡ union i.used r.used → used ≡ union s.used under →
-    Meets (Ok (inferred ty used)) (left f3) (table_with env ctx (Lam n a b) f0)
+    Meets (Ok (inferred ty used)) (left f3) (table_of env ctx (Lam n a b) f0)
 function_meets env ctx inner n a b s r i ty under used f0 f1 f2 f3 first kept room found more sort given under_is used_is =
     let one : calls_left f1 ≡ calls_left f0 = same_calls f0 f1 kept in
     let two : calls_left f2 ≡ calls_left f0 = same_calls f1 f2 more ∙ one in
     let made = made_is (Prod n a i.ty) ty given in
-    let whole : table_with env ctx (Lam n a b) f0 ≡ pure (inferred (Prod n a i.ty) (union s.used (union i.used r.used))) (left f3) =
+    let whole : table_of env ctx (Lam n a b) f0 ≡ pure (inferred (Prod n a i.ty) (union s.used (union i.used r.used))) (left f3) =
     after_value (sort_of_at env (calls_left f0) ctx a) _ (left f0) (left f1) s first
     ∙ (after_value (with_hyp ctx (plain_hyp n a)) _ (left f1) (left f1) inner (room, refl)
     ∙ (after_value (infer_at env (calls_left f0) inner b) _ (left f1) (left f2) i (inferred_at env (calls_left f0) f1 one (left f2) inner b (Ok i) found)
@@ -142,12 +142,12 @@ pub let_meets : (env : List Slot) (ctx inner : List Hyp) (n : List ℕ) (a t b :
     (f0 f1 f2 f3 : FuelState) → Meets (Ok s) (left f1) (sort_of_with env ctx a f0) → IsSpentOf f0 f1 → Meets (Ok checked) (left f2) (check_with env ctx t a f1) →
     IsSpentOf f1 f2 → Ok inner ≡ extended ctx (defined_hyp n a t) → Meets (Ok i) (left f3) (infer_with env inner b f2) →
     Ok ty ≡ sized (subst_of i.ty t 0) → outer ≡ union s.used checked → used ≡ union outer i.used →
-    Meets (Ok (inferred ty used)) (left f3) (table_with env ctx (LetIn n a t b) f0)
+    Meets (Ok (inferred ty used)) (left f3) (table_of env ctx (LetIn n a t b) f0)
 let_meets env ctx inner n a t b s checked i ty outer used f0 f1 f2 f3 first kept fits more room found given outer_is used_is =
     let one : calls_left f1 ≡ calls_left f0 = same_calls f0 f1 kept in
     let two : calls_left f2 ≡ calls_left f0 = same_calls f1 f2 more ∙ one in
     let made = sized_is (subst_of i.ty t 0) ty given in
-    let whole : table_with env ctx (LetIn n a t b) f0 ≡ pure (inferred (subst_of i.ty t 0) (union (union s.used checked) i.used)) (left f3) =
+    let whole : table_of env ctx (LetIn n a t b) f0 ≡ pure (inferred (subst_of i.ty t 0) (union (union s.used checked) i.used)) (left f3) =
     after_value (sort_of_at env (calls_left f0) ctx a) _ (left f0) (left f1) s first
     ∙ (after_value (check_at env (calls_left f0) ctx t a) _ (left f1) (left f2) checked (checked_at env (calls_left f0) f1 one (left f2) ctx t a (Ok checked) fits)
     ∙ (after_value (with_hyp ctx (defined_hyp n a t)) _ (left f2) (left f2) inner (room, refl)
@@ -162,12 +162,12 @@ pub application_meets : (env : List Slot) (ctx : List Hyp) (g v : Tree) (i : Inf
     (f0 f1 f2 f3 : FuelState) → Meets (Ok i) (left f1) (infer_with env ctx g f0) → IsSpentOf f0 f1 → Meets (Ok p) (left f2) (as_arrow_with env ctx i.ty i.used f1) →
     IsSpentOf f1 f2 → Meets (Ok checked) (left f3) (check_with env ctx v p.domain f2) →
     Ok ty ≡ sized (subst_of p.codomain v 0) → used ≡ union p.used checked →
-    Meets (Ok (inferred ty used)) (left f3) (table_with env ctx (App g v) f0)
+    Meets (Ok (inferred ty used)) (left f3) (table_of env ctx (App g v) f0)
 application_meets env ctx g v i p checked ty used f0 f1 f2 f3 first kept sides more fits given used_is =
     let one : calls_left f1 ≡ calls_left f0 = same_calls f0 f1 kept in
     let two : calls_left f2 ≡ calls_left f0 = same_calls f1 f2 more ∙ one in
     let made = sized_is (subst_of p.codomain v 0) ty given in
-    let whole : table_with env ctx (App g v) f0 ≡ pure (inferred (subst_of p.codomain v 0) (union p.used checked)) (left f3) =
+    let whole : table_of env ctx (App g v) f0 ≡ pure (inferred (subst_of p.codomain v 0) (union p.used checked)) (left f3) =
     after_value (infer_at env (calls_left f0) ctx g) _ (left f0) (left f1) i first
     ∙ (after_value (as_arrow (whnf_at env true (calls_left f0)) (conv_at env (calls_left f0)) (infer_at env (calls_left f0)) ctx i.ty i.used) _ (left f1) (left f2) p
     (arrow_at env (calls_left f0) f1 one (left f2) ctx i.ty i.used (Ok p) sides)

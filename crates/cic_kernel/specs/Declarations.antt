@@ -1,5 +1,5 @@
 -- Declarations on some fuel, for the calls that enter them.
-use Rattle.std.specs.Prelude.{ℕ, List, [], Bool, Option, Some, None}
+use Rattle.std.specs.Prelude.{ℕ, List, Bool, Option, Some, None}
 use Rattle.core_term.specs.Tree.{Tree}
 use Rattle.cic_rules.specs.declared.decls.InductiveDecl.{InductiveDecl}
 use Rattle.cic_rules.specs.declared.entries.Entry.{Entry}

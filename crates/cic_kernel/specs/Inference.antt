@@ -25,8 +25,12 @@ abbrev pub table_at : List Slot → ℕ → List Hyp → Tree → Run Inferred
 table_at env calls ctx t = infer_by (whnf_at env true calls) (conv_at env calls) (infer_at env calls) env ctx t
 
 -- on some fuel
-abbrev pub table_with : List Slot → List Hyp → Tree → FuelState → Ran Inferred
-table_with env ctx t f = table_at env (calls_left f) ctx t (left f)
+abbrev pub table_of : List Slot → List Hyp → Tree → FuelState → Ran Inferred
+table_of env ctx t f = table_at env (calls_left f) ctx t (left f)
+
+-- a call infers what is told on the fuel that it had
+abbrev pub Infers : Result Inferred Stop → FuelState → FuelState → (FuelState → Ran Inferred) → Type 0
+Infers result old new call = Meets result (left new) (call old)
 
 -- a judgement that was begun takes its unit first
 abbrev pub begun_with : List Slot → List Hyp → Tree → FuelState → Ran Inferred

@@ -12,7 +12,7 @@ ghost use Rattle.cic_rules.specs.Fuel.{left, IsSpentOf};
 ghost use Rattle.cic_rules.specs.Judges.{MayJudge, IsTermIn, IsInferredIn, Meets, conv_with, infer_with, sort_of_with, check_with};
 ghost use Rattle.cic_rules.specs.Scopes.{AreNames, IsJudged};
 ghost use Rattle.cic_rules.specs.declared.judge.Mode.TheVariants.{Below};
-ghost use Rattle.cic_kernel.specs.Inference.{table_with, begun_with, as_arrow_with, variable_run, sort_run, global_run, sized, Answers, IsArrowIn};
+ghost use Rattle.cic_kernel.specs.Inference.{Infers, table_of, begun_with, as_arrow_with, variable_run, sort_run, global_run, sized, Answers, IsArrowIn};
 
 use crate::names::unite;
 use base_core::refusal_codes::{
@@ -61,7 +61,7 @@ fn infer_begun(
 ) -> Result<Inferred, Stop>
     requires environment { IsEnvironment env.now }
     requires judged { MayJudge env.now ctx.now }
-    ensures answer { Meets result (left fuel.new) (begun_with env.now ctx.now t.now fuel.old) }
+    ensures answer { Infers result fuel.old fuel.new (begun_with env.now ctx.now t.now) }
     ensures kept { IsSpentOf fuel.old fuel.new }
 {
     if !fuel.spend(1) {
@@ -81,7 +81,7 @@ fn infer_by_top(
 ) -> Result<Inferred, Stop>
     requires environment { IsEnvironment env.now }
     requires judged { MayJudge env.now ctx.now }
-    ensures answer { Meets result (left fuel.new) (table_with env.now ctx.now t.now fuel.old) }
+    ensures answer { Infers result fuel.old fuel.new (table_of env.now ctx.now t.now) }
     ensures kept { IsSpentOf fuel.old fuel.new }
 {
     match t.node() {
@@ -161,7 +161,7 @@ fn infer_product(
 ) -> Result<Inferred, Stop>
     requires environment { IsEnvironment env.now }
     requires judged { MayJudge env.now ctx.now }
-    ensures answer { Meets result (left fuel.new) (table_with env.now ctx.now (Prod name.now domain.now codomain.now) fuel.old) }
+    ensures answer { Infers result fuel.old fuel.new (table_of env.now ctx.now (Prod name.now domain.now codomain.now)) }
     ensures kept { IsSpentOf fuel.old fuel.new }
 {
     let first = sort_of(alloc, env, ctx, domain, fuel)?;
@@ -184,7 +184,7 @@ fn infer_function(
 ) -> Result<Inferred, Stop>
     requires environment { IsEnvironment env.now }
     requires judged { MayJudge env.now ctx.now }
-    ensures answer { Meets result (left fuel.new) (table_with env.now ctx.now (Lam name.now domain.now body.now) fuel.old) }
+    ensures answer { Infers result fuel.old fuel.new (table_of env.now ctx.now (Lam name.now domain.now body.now)) }
     ensures kept { IsSpentOf fuel.old fuel.new }
 {
     let first = sort_of(alloc, env, ctx, domain, fuel)?;
@@ -212,7 +212,7 @@ fn infer_let(
 ) -> Result<Inferred, Stop>
     requires environment { IsEnvironment env.now }
     requires judged { MayJudge env.now ctx.now }
-    ensures answer { Meets result (left fuel.new) (table_with env.now ctx.now (LetIn name.now ty.now value.now body.now) fuel.old) }
+    ensures answer { Infers result fuel.old fuel.new (table_of env.now ctx.now (LetIn name.now ty.now value.now body.now)) }
     ensures kept { IsSpentOf fuel.old fuel.new }
 {
     let _count = ctx.len();
@@ -238,7 +238,7 @@ fn infer_application(
 ) -> Result<Inferred, Stop>
     requires environment { IsEnvironment env.now }
     requires judged { MayJudge env.now ctx.now }
-    ensures answer { Meets result (left fuel.new) (table_with env.now ctx.now (App function.now argument.now) fuel.old) }
+    ensures answer { Infers result fuel.old fuel.new (table_of env.now ctx.now (App function.now argument.now)) }
     ensures kept { IsSpentOf fuel.old fuel.new }
 {
     let _count = ctx.len();

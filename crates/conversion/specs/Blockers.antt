@@ -74,6 +74,10 @@ module _ (env : List Slot) (ctx : List Hyp) (f : FuelState) where
   abbrev pub blocker_of : ℕ → Tree → Run (Option Blocker)
   blocker_of majors t = blocker_at env (whnf_at env false (calls_left f) ctx) majors t
 
+  -- of a spine
+  abbrev pub spine_blocker : ℕ → Spine → Run (Option Blocker)
+  spine_blocker majors s = blocker_of majors (tree_of_spine s)
+
   -- of a spine whose head is the global at a place
   abbrev pub global_blocker_of : ℕ → ℕ → Spine → Run (Option Blocker)
   global_blocker_of majors place s =
@@ -81,8 +85,8 @@ module _ (env : List Slot) (ctx : List Hyp) (f : FuelState) where
       (Constant place) (body_of_global env place) (major_premise env (Constant place) s.args)
 
   -- of a spine that waits for its argument at a place
-  abbrev pub major_blocker_of : ℕ → Spine → ℕ → Tree → Run (Option Blocker)
-  major_blocker_of majors s at major =
+  abbrev pub blocker_in : ℕ → Spine → ℕ → Tree → Run (Option Blocker)
+  blocker_in majors s at major =
       whnf_at env false (calls_left f) ctx major >>= λ value. blocker_at env (whnf_at env false (calls_left f) ctx) majors value >>= λ b.
       pure (put_back_at s at b)
 

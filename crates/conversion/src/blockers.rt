@@ -10,7 +10,7 @@ ghost use Rattle.cic_rules.specs.Families.{replace_major};
 ghost use Rattle.cic_rules.specs.Fuel.{IsSpentOf};
 ghost use Rattle.cic_rules.specs.Judges.{MayJudge, IsTermIn};
 ghost use Rattle.conversion.specs.Turns.{IsSpine, ReducesTo, reduce_of};
-ghost use Rattle.conversion.specs.Blockers.{global_in, IsReplaced, IsReplacedBy, IsSmallIfAny, IsPutBack, BlocksBy, blocker_of, global_blocker_of, major_blocker_of};
+ghost use Rattle.conversion.specs.Blockers.{global_in, IsReplaced, IsReplacedBy, IsSmallIfAny, IsPutBack, BlocksBy, spine_blocker, global_blocker_of, blocker_in};
 
 use crate::iota::spine_of_term;
 use crate::lookups::{argument_at, body_to_unfold, eliminated_place};
@@ -97,7 +97,7 @@ pub(crate) fn blocker(
     requires judged { MayJudge env.now ctx.now }
     requires term { IsTermIn env.now ctx.now (tree_of_spine spine.now) }
     requires spine { IsSpine spine.now }
-    ensures answer { BlocksBy result fuel.old fuel.new (blocker_of env.now ctx.now fuel.old majors (tree_of_spine spine.now)) }
+    ensures answer { BlocksBy result fuel.old fuel.new (spine_blocker env.now ctx.now fuel.old majors spine.now) }
     ensures kept { IsSpentOf fuel.old fuel.new }
 {
     if majors == 0 {
@@ -170,7 +170,7 @@ fn blocker_of_major(
     requires judged { MayJudge env.now ctx.now }
     requires major { IsTermIn env.now ctx.now major.now }
     requires there { at < length spine.now.args }
-    ensures answer { BlocksBy result fuel.old fuel.new (major_blocker_of env.now ctx.now fuel.old majors spine.now at major.now) }
+    ensures answer { BlocksBy result fuel.old fuel.new (blocker_in env.now ctx.now fuel.old majors spine.now at major.now) }
     ensures kept { IsSpentOf fuel.old fuel.new }
 {
     match value_of_major(alloc, env, ctx, major, fuel) {

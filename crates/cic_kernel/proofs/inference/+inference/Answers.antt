@@ -1,5 +1,4 @@
-use Rattle.std.proofs.Common.{◌≡◌, ◌<◌, ◌≤◌, ◌∙◌, ◌∷◌, refl, sym, ap, length, true, arith, rules}
-use Rattle.std.proofs.lemmas.Bool.Decides.{nat_tests}
+use Rattle.std.proofs.Common.{◌≡◌, ◌∙◌, sym, ap, length, true, arith}
 use Rattle.core_term.proofs.SortOrder.{product_level}
 use Rattle.cic_rules.specs.Fuel.{left, calls_left, nested}
 use Rattle.core_term.specs.Nodes.{tree_of}

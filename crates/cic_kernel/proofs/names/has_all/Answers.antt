@@ -1,4 +1,3 @@
-use Rattle.std.proofs.Common.{refl}
 use Rattle.cic_kernel.proofs.UniteLaws.{each_step, each_end}
 use Rattle.cic_kernel.proofs.names.has_all.Goals as goal
 
