@@ -1,5 +1,5 @@
 -- The oldest variables of a context as arguments.
-use Rattle.std.proofs.Common.{◌≡◌, ℕ, zero, suc, ◌-◌, ◌≤◌, List, [], ◌∷◌, take, Ok, refl, sym, ◌∙◌, ap, arith}
+use Rattle.std.proofs.Common.{◌≡◌, ℕ, zero, suc, ◌-◌, ◌≤◌, [], take, Ok, refl, sym, ◌∙◌, ap, arith}
 use Rattle.core_term.specs.Tree.{Tree, Var, App}
 use Rattle.term_spine.specs.Spine.{variables_of}
 use Rattle.cic_rules.specs.Steps.{step_then, answer_of}

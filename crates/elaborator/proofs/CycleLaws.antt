@@ -18,9 +18,8 @@ use Rattle.cic_rules.specs.declared.context.Hyp.{Hyp}
 use Rattle.cic_rules.specs.declared.env.Slot.{Slot}
 use Rattle.cic_rules.specs.Fuel.{FuelState, left, calls_left, NESTING_LIMIT, IsSpentOf}
 use Rattle.cic_rules.specs.Judges.{MayJudge, IsTermIn, Meets}
-use Rattle.cic_rules.specs.Laws.{Tells}
 use Rattle.cic_rules.specs.Runs.{Ran, Run, give, pure, and_then, ◌>>=◌}
-use Rattle.cic_rules.specs.Steps.{Step, Refuses, TooLarge, answer_of, take_step}
+use Rattle.cic_rules.specs.Steps.{Step, answer_of, take_step}
 use Rattle.elaborator.specs.Rows.{bound}
 use Rattle.elaborator.specs.Elab.{elab, elab_arguments, open_groups, elab_with, arguments_with, groups_with}
 use Rattle.elaborator.specs.Names.{bound_name}

@@ -1,5 +1,5 @@
 -- The law of fuel of elaboration, row by row.
-use Rattle.std.proofs.Common.{◌≡◌, ℕ, suc, ◌^◌, nat_lt, List, [], ◌∷◌, ◌++◌, length, codes, Bool, true, false, Result, Ok, Err, refl}
+use Rattle.std.proofs.Common.{◌≡◌, ℕ, suc, ◌^◌, nat_lt, List, [], ◌∷◌, ◌++◌, length, codes, Bool, true, false, Result, Ok, Err}
 use Rattle.std.specs.Prelude.{if◌then◌else◌}
 use Rattle.base_core.specs.declared.refusals.Stop.{Stop}
 use Rattle.base_core.specs.declared.refusals.Stop.TheVariants.{Out}
@@ -13,10 +13,10 @@ use Rattle.core_term.specs.Places.{lift_of}
 use Rattle.cic_rules.specs.declared.context.Hyp.{Hyp}
 use Rattle.cic_rules.specs.declared.env.Slot.{Slot}
 use Rattle.cic_rules.specs.declared.judge.Inferred.{Inferred}
-use Rattle.cic_rules.specs.Contexts.{extended, plain_hyp}
+use Rattle.cic_rules.specs.Contexts.{plain_hyp}
 use Rattle.cic_rules.specs.Infer.{infer_at}
 use Rattle.cic_rules.specs.Laws.{KeepsLawOfFuel}
-use Rattle.cic_rules.specs.Runs.{Run, pure}
+use Rattle.cic_rules.specs.Runs.{Run}
 use Rattle.cic_rules.proofs.FuelLaws.{law_give, law_pure, law_bind, law_take_step, law_if, fuel_laws}
 use Rattle.cic_rules.proofs.InferFuelLaws.{fuel_of_inference}
 use Rattle.elaborator.specs.declared.binders.Binding.{Binding}

@@ -1,5 +1,5 @@
 -- What elaboration gives stands in scope.
-use Rattle.std.proofs.Common.{◌≡◌, ℕ, suc, ◌+◌, ◌-◌, ◌≤◌, List, [], ◌∷◌, ◌++◌, length, take, codes, Bool, true, false, Ok, refl, ap, sym, subst, ◌∙◌, arith}
+use Rattle.std.proofs.Common.{ℕ, ◌-◌, ◌≤◌, List, [], ◌∷◌, ◌++◌, length, codes, arith}
 use Rattle.coq_syntax.specs.declared.words.TokenPlace.{TokenPlace}
 use Rattle.coq_syntax.specs.declared.words.BoundName.{BoundName}
 use Rattle.coq_syntax.specs.Trees.{Term, Forall, Fun, Let, Arrow, Or, And, Not, Equal, Apply, Name, PropSort, SetSort, TypeSort, TypeAt, Numeral, Parenthesized, Binders, Names, Groups, GroupList, NoGroup, Group, Untyped, Typed, Arguments, NoArgument, Positional, Given}
@@ -11,10 +11,10 @@ use Rattle.cic_rules.specs.declared.judge.Inferred.{Inferred}
 use Rattle.cic_rules.specs.Contexts.{plain_hyp, defined_hyp}
 use Rattle.cic_rules.specs.Environments.{IsEnvironment}
 use Rattle.cic_rules.specs.Infer.{infer_at}
-use Rattle.cic_rules.specs.Judges.{MayJudge, IsTermIn, IsInferredIn}
-use Rattle.cic_rules.specs.Laws.{Tells, ScopeOfInference, FoundPlacesAreThere}
+use Rattle.cic_rules.specs.Judges.{IsTermIn, IsInferredIn}
+use Rattle.cic_rules.specs.Laws.{Tells, FoundPlacesAreThere}
 use Rattle.cic_rules.specs.Runs.{Run}
-use Rattle.cic_rules.specs.Scopes.{IsScoped, AreScoped, IsScopedContext}
+use Rattle.cic_rules.specs.Scopes.{AreScoped, IsScopedContext}
 use Rattle.cic_rules.proofs.JudgeScopes.{scope_of_inference}
 use Rattle.cic_rules.proofs.PlaceLaws.{place_below}
 use Rattle.cic_rules.proofs.ScopeLaws.{scoped_append}
@@ -22,7 +22,7 @@ use Rattle.cic_rules.proofs.TellsLaws.{tells_give, tells_pure, tells_bind, tells
 use Rattle.elaborator.specs.declared.binders.Binding.{Binding}
 use Rattle.elaborator.specs.declared.binders.Binding.TheVariants.{Product, Function}
 use Rattle.elaborator.specs.Names.{unnamed, bound_name, global, name}
-use Rattle.elaborator.specs.Parts.{applied, numeral, type_at, closed, opened}
+use Rattle.elaborator.specs.Parts.{numeral, type_at, opened}
 use Rattle.elaborator.specs.Arrangement.{has_named, order, picked}
 use Rattle.elaborator.specs.Rows.{arrow, bound, binding, defined, typed_let, untyped_let, operation, negation, equation, named_application, application}
 use Rattle.elaborator.specs.Elab.{elab, elab_arguments, open_binders, open_groups}

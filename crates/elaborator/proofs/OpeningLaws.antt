@@ -1,10 +1,9 @@
 -- Contexts with the hypotheses that binders make.
-use Rattle.std.proofs.Common.{◌≡◌, ℕ, suc, ◌+◌, ◌-◌, ◌^◌, ◌<◌, ◌≤◌, nat_lt, List, [], ◌∷◌, length, Bool, true, false, Option, Some, None, Result, Ok, Err, refl, ap, sym, subst, ◌∙◌, arith}
+use Rattle.std.proofs.Common.{◌≡◌, ℕ, suc, ◌+◌, ◌-◌, ◌^◌, ◌≤◌, nat_lt, List, [], ◌∷◌, length, Bool, true, false, Result, Ok, Err, refl, ap, sym, subst, ◌∙◌, arith}
 use Rattle.std.specs.Prelude.{if◌then◌else◌}
 use Rattle.base_core.specs.declared.refusals.Stop.{Stop}
-use Rattle.base_core.specs.declared.refusals.Stop.TheVariants.{Out, Refused, NoMem}
+use Rattle.base_core.specs.declared.refusals.Stop.TheVariants.{Out}
 use Rattle.base_core.specs.declared.refusals.Limit.TheVariants.{SizeLimit}
-use Rattle.base_core.specs.Answers.{Gives}
 use Rattle.coq_syntax.specs.declared.words.BoundName.{BoundName}
 use Rattle.core_term.specs.Tree.{Tree, IsTerm, IsNumbered, free_bound}
 use Rattle.core_term.specs.Places.{lift_of}
@@ -14,7 +13,7 @@ use Rattle.core_term.proofs.FreeVariables.{numbered-lifted, free_bound-lifted}
 use Rattle.cic_rules.specs.declared.context.Hyp.{Hyp}
 use Rattle.cic_rules.specs.declared.env.Slot.{Slot}
 use Rattle.cic_rules.specs.Contexts.{extended, plain_hyp, defined_hyp, IsHypAt}
-use Rattle.cic_rules.specs.Scopes.{IsScoped, IsScopedHyp, IsScopedContext}
+use Rattle.cic_rules.specs.Scopes.{IsScopedHyp, IsScopedContext}
 use Rattle.cic_rules.specs.Judges.{MayJudge, IsTermIn}
 use Rattle.cic_rules.proofs.ScopeLaws.{scoped_free, scoped_lift}
 use Rattle.elaborator.specs.Names.{bound_name}

@@ -1,5 +1,5 @@
 -- What is true of the values of steps: what is put together stays in scope.
-use Rattle.std.proofs.Common.{◌≡◌, ℕ, zero, suc, ◌+◌, ◌-◌, ◌<◌, ◌≤◌, ◌&&◌, nat_le, List, [], ◌∷◌, ◌++◌, length, take, bytes_eq, codes, Bool, true, false, Option, Some, None, Ok, Err, refl, ap, sym, subst, ◌∙◌, arith}
+use Rattle.std.proofs.Common.{◌≡◌, ℕ, zero, suc, ◌+◌, ◌<◌, ◌&&◌, nat_le, List, [], ◌∷◌, length, take, bytes_eq, codes, Bool, true, false, Option, Some, None, Ok, Err, refl, subst, arith}
 use Rattle.std.specs.Prelude.{if◌then◌else◌, slice_get}
 use Rattle.base_core.specs.declared.refusal_codes.TheConstants.{NO_LEVEL}
 use Rattle.coq_syntax.specs.declared.words.TokenPlace.{TokenPlace}
@@ -10,9 +10,9 @@ use Rattle.core_term.specs.declared.sorts.Sort.TheVariants.{TypeSort}
 use Rattle.core_term.specs.Tree.{Tree, Var, Constant, Sorted, App, is_small}
 use Rattle.cic_rules.specs.declared.context.Hyp.{Hyp}
 use Rattle.cic_rules.specs.declared.env.Slot.{Slot}
-use Rattle.cic_rules.specs.Environments.{place_in, IsEnvironment}
+use Rattle.cic_rules.specs.Environments.{place_in}
 use Rattle.cic_rules.specs.Scopes.{IsScoped, AreScoped, IsScopedContext}
-use Rattle.cic_rules.specs.Steps.{Step, Refuses, TooLarge, step_then, stop_of, take_step, refuse_step}
+use Rattle.cic_rules.specs.Steps.{Step, TooLarge, step_then, stop_of, take_step, refuse_step}
 use Rattle.cic_rules.specs.Laws.{Tells, FoundPlacesAreThere}
 use Rattle.cic_rules.proofs.ScopeLaws.{scoped_get}
 use Rattle.cic_rules.proofs.TellsLaws.{tells_pure, tells_stop}

@@ -3,7 +3,6 @@
 use Rattle.std.specs.Prelude.{ℕ, suc, List, [], ◌∷◌, ◌++◌, Bool, true, false, Option, Some, None, Ok, if◌then◌else◌, bytes_eq, slice_get, slice_set}
 use Rattle.base_core.specs.declared.refusal_codes.TheConstants.{NO_SUCH_ARGUMENT, ARGUMENT_TWICE, ARGUMENT_MISSING}
 use Rattle.coq_syntax.specs.declared.words.TokenPlace.{TokenPlace}
-use Rattle.coq_syntax.specs.declared.words.Word.{Word}
 use Rattle.coq_syntax.specs.Trees.{Term, Name, Arguments, NoArgument, Positional, Given}
 use Rattle.core_term.specs.Tree.{Tree, Prod}
 use Rattle.cic_rules.specs.declared.context.Hyp.{Hyp}

@@ -2,16 +2,16 @@
 use Rattle.std.specs.Prelude.{ℕ, List, []}
 use Rattle.coq_syntax.specs.declared.words.TokenPlace.{TokenPlace}
 use Rattle.coq_syntax.specs.declared.words.BoundName.{BoundName}
-use Rattle.coq_syntax.specs.Trees.{Term, Binders, Annotation, Untyped, Typed, Arguments, Let, Apply}
+use Rattle.coq_syntax.specs.Trees.{Term, Binders, Annotation, Untyped, Typed, Arguments}
 use Rattle.core_term.specs.Tree.{Tree}
 use Rattle.cic_rules.specs.declared.context.Hyp.{Hyp}
 use Rattle.cic_rules.specs.declared.env.Slot.{Slot}
 use Rattle.cic_rules.specs.Fuel.{FuelState, left, calls_left}
 use Rattle.cic_rules.specs.Infer.{infer_at}
-use Rattle.cic_rules.specs.Runs.{Ran, Run}
+use Rattle.cic_rules.specs.Runs.{Ran}
 use Rattle.elaborator.specs.declared.binders.Binding.{Binding}
 use Rattle.elaborator.specs.Rows.{arrow, bound, binding, defined, typed_let, untyped_let, operation, negation, equation, named_application, application}
-use Rattle.elaborator.specs.Elab.{elab, elab_arguments, open_binders, open_groups}
+use Rattle.elaborator.specs.Elab.{elab, elab_arguments, open_binders}
 
 module _ (env : List Slot) (ctx : List Hyp) where
   abbrev pub arrow_with : Term → Term → FuelState → Ran Tree

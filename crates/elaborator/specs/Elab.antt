@@ -1,11 +1,10 @@
 -- Elaboration: the term of a tree in a context, with units and refusals.
-use Rattle.std.specs.Prelude.{ℕ, zero, suc, List, [], ◌∷◌, ◌++◌, if◌then◌else◌, codes}
-use Rattle.coq_syntax.specs.Trees.{Term, Forall, Fun, Let, Arrow, Or, And, Not, Equal, Apply, Name, PropSort, SetSort, TypeSort, TypeAt, Numeral, Parenthesized, Binders, Names, Groups, GroupList, NoGroup, Group, Annotation, Untyped, Typed, Arguments, NoArgument, Positional, Given}
+use Rattle.std.specs.Prelude.{ℕ, List, [], ◌∷◌, ◌++◌, if◌then◌else◌, codes}
+use Rattle.coq_syntax.specs.Trees.{Term, Forall, Fun, Let, Arrow, Or, And, Not, Equal, Apply, Name, PropSort, SetSort, TypeSort, TypeAt, Numeral, Parenthesized, Binders, Names, Groups, GroupList, NoGroup, Group, Untyped, Typed, Arguments, NoArgument, Positional, Given}
 use Rattle.core_term.specs.declared.sorts.Sort.TheVariants as sort
 use Rattle.core_term.specs.Tree.{Tree, Sorted}
 use Rattle.cic_rules.specs.declared.context.Hyp.{Hyp}
 use Rattle.cic_rules.specs.declared.env.Slot.{Slot}
-use Rattle.cic_rules.specs.declared.judge.Inferred.{Inferred}
 use Rattle.cic_rules.specs.Fuel.{FuelState, left, calls_left}
 use Rattle.cic_rules.specs.Infer.{infer_at}
 use Rattle.cic_rules.specs.Runs.{Ran, Run, ◌>>=◌, pure}

@@ -1,9 +1,10 @@
-pub mod Names
-pub mod Index
-pub mod Parts
 pub mod Arrangement
-pub mod Rows
-pub mod Elab
 pub mod Calls
 pub mod Constructors
+pub mod Elab
+pub mod Index
 pub mod Laws
+pub mod Names
+pub mod Parts
+pub mod Rows
+pub mod Written

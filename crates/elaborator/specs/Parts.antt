@@ -73,7 +73,11 @@ abbrev pub then_open : Result (List Hyp) Stop → (List Hyp → Result (List Hyp
 then_open (Ok inner) rest = rest inner
 then_open (Err stop) rest = Err stop
 
+-- the hypothesis of a name, of a type that stands behind so many others
+abbrev pub lifted_hyp : BoundName → Tree → ℕ → Hyp
+lifted_hyp n ty k = plain_hyp (bound_name n) (lift_of ty k 0)
+
 -- the context with a hypothesis for each name, all of one type of the context before the group; k names of the group stand before these
 abbrev pub opened : List Hyp → Tree → ℕ → List BoundName → Result (List Hyp) Stop
 opened ctx ty k [] = Ok ctx
-opened ctx ty k (n ∷ ns) = then_open (extended ctx (plain_hyp (bound_name n) (lift_of ty k 0))) (λ inner. opened inner ty (suc k) ns)
+opened ctx ty k (n ∷ ns) = then_open (extended ctx (lifted_hyp n ty k)) (λ inner. opened inner ty (suc k) ns)

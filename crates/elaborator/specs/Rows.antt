@@ -1,5 +1,5 @@
 -- The rows of elaboration, each over the runs of its parts.
-use Rattle.std.specs.Prelude.{ℕ, ◌-◌, List, [], ◌∷◌, length, take, Option, Some, None, codes}
+use Rattle.std.specs.Prelude.{ℕ, ◌-◌, List, [], ◌∷◌, length, take, codes}
 use Rattle.coq_syntax.specs.declared.words.TokenPlace.{TokenPlace}
 use Rattle.coq_syntax.specs.declared.words.BoundName.{BoundName}
 use Rattle.coq_syntax.specs.Trees.{Term, Arguments}

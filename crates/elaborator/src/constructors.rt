@@ -7,7 +7,8 @@ ghost use Rattle.cic_rules.specs.Judges.{MayJudge, Meets};
 ghost use Rattle.cic_rules.specs.Steps.{answer_of};
 ghost use Rattle.term_spine.specs.Spine.{variables_of};
 ghost use Rattle.elaborator.specs.Parts.{applied};
-ghost use Rattle.elaborator.specs.Constructors.{applied_to_oldest, result_type_with, constructor_type_with};
+ghost use Rattle.elaborator.specs.Constructors.{applied_to_oldest};
+ghost use Rattle.elaborator.specs.Written.{Does, result_row, constructor_row};
 
 use crate::binders::{Binding, close};
 use crate::elaborate::{elab_in, groups_in};
@@ -32,7 +33,7 @@ pub fn elab_constructor<J: Judge>(
     fuel: &mut Fuel,
 ) -> Result<Term, Stop>
     requires { MayJudge env.now params.now }
-    ensures answer { Meets result (left fuel.new) (constructor_type_with env.now params.now place (groups_of groups.now) (annotation_of annotation.now) fuel.old) }
+    ensures answer { Does result fuel.old fuel.new (constructor_row env.now params.now place groups.now annotation.now) }
     ensures kept { IsSpentOf fuel.old fuel.new }
 {
     let scope = Scope::of(alloc, params)?;
@@ -54,7 +55,7 @@ fn result_type<J: Judge>(
     fuel: &mut Fuel,
 ) -> Result<Term, Stop>
     requires { MayJudge env.now inner.now }
-    ensures answer { Meets result (left fuel.new) (result_type_with env.now params.now place (annotation_of annotation.now) inner.now fuel.old) }
+    ensures answer { Does result fuel.old fuel.new (result_row env.now params.now place annotation.now inner.now) }
     ensures kept { IsSpentOf fuel.old fuel.new }
 {
     match annotation {

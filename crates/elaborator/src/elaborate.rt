@@ -7,6 +7,7 @@ ghost use Rattle.cic_rules.specs.Fuel.{left, IsSpentOf};
 ghost use Rattle.cic_rules.specs.Judges.{MayJudge, IsTermIn, Meets};
 ghost use Rattle.elaborator.specs.Names.{bound_name};
 ghost use Rattle.elaborator.specs.Elab.{elab_with, groups_with, binders_with, arguments_with};
+ghost use Rattle.elaborator.specs.Written.{Does, binding_row, let_row, typed_let_row, untyped_let_row, defined_row, apply_row, application_row, named_application_row};
 ghost use Rattle.elaborator.specs.Calls.{arrow_with, binding_with, defined_with, typed_let_with, untyped_let_with, let_with, operation_with, negation_with, equation_with, named_application_with, application_with, bound_with};
 
 use crate::arrangement::{has_named, order};
@@ -150,7 +151,7 @@ fn binding<J: Judge>(
     fuel: &mut Fuel,
 ) -> Result<Term, Stop>
     requires judged { MayJudge env.now scope.now }
-    ensures answer { Meets result (left fuel.new) (binding_with env.now scope.now kind (binders_of binders.now) body.now fuel.old) }
+    ensures answer { Does result fuel.old fuel.new (binding_row env.now scope.now kind binders.now body.now) }
     ensures kept { IsSpentOf fuel.old fuel.new }
 {
     let inner = open_binders(judge, alloc, env, scope, binders, fuel)?;
@@ -173,7 +174,7 @@ fn let_row<J: Judge>(
     fuel: &mut Fuel,
 ) -> Result<Term, Stop>
     requires judged { MayJudge env.now scope.now }
-    ensures answer { Meets result (left fuel.new) (let_with env.now scope.now (bound_name name.now) (annotation_of annotation.now) value.now body.now fuel.old) }
+    ensures answer { Does result fuel.old fuel.new (let_row env.now scope.now name.now annotation.now value.now body.now) }
     ensures kept { IsSpentOf fuel.old fuel.new }
 {
     match annotation {
@@ -197,7 +198,7 @@ fn typed_let<J: Judge>(
     fuel: &mut Fuel,
 ) -> Result<Term, Stop>
     requires judged { MayJudge env.now scope.now }
-    ensures answer { Meets result (left fuel.new) (typed_let_with env.now scope.now (bound_name name.now) ty.now value.now body.now fuel.old) }
+    ensures answer { Does result fuel.old fuel.new (typed_let_row env.now scope.now name.now ty.now value.now body.now) }
     ensures kept { IsSpentOf fuel.old fuel.new }
 {
     let ty = elab_in(judge, alloc, env, scope, ty, fuel)?;
@@ -217,7 +218,7 @@ fn untyped_let<J: Judge>(
     fuel: &mut Fuel,
 ) -> Result<Term, Stop>
     requires judged { MayJudge env.now scope.now }
-    ensures answer { Meets result (left fuel.new) (untyped_let_with env.now scope.now (bound_name name.now) value.now body.now fuel.old) }
+    ensures answer { Does result fuel.old fuel.new (untyped_let_row env.now scope.now name.now value.now body.now) }
     ensures kept { IsSpentOf fuel.old fuel.new }
 {
     let value = elab_in(judge, alloc, env, scope, value, fuel)?;
@@ -241,7 +242,7 @@ fn defined<J: Judge>(
     requires judged { MayJudge env.now scope.now }
     requires ty { IsTermIn env.now scope.now ty }
     requires value { IsTermIn env.now scope.now value }
-    ensures answer { Meets result (left fuel.new) (defined_with env.now scope.now (bound_name name.now) ty value body.now fuel.old) }
+    ensures answer { Does result fuel.old fuel.new (defined_row env.now scope.now name.now ty value body.now) }
     ensures kept { IsSpentOf fuel.old fuel.new }
 {
     let name = bound_name(alloc, name)?;
@@ -329,7 +330,7 @@ fn application_row<J: Judge>(
     fuel: &mut Fuel,
 ) -> Result<Term, Stop>
     requires judged { MayJudge env.now scope.now }
-    ensures answer { Meets result (left fuel.new) (elab_with env.now scope.now (tree.Apply head.now (arguments_of arguments.now)) fuel.old) }
+    ensures answer { Does result fuel.old fuel.new (apply_row env.now scope.now head.now arguments.now) }
     ensures kept { IsSpentOf fuel.old fuel.new }
 {
     if has_named(arguments) {
@@ -350,7 +351,7 @@ fn application<J: Judge>(
     fuel: &mut Fuel,
 ) -> Result<Term, Stop>
     requires judged { MayJudge env.now scope.now }
-    ensures answer { Meets result (left fuel.new) (application_with env.now scope.now head.now (arguments_of arguments.now) fuel.old) }
+    ensures answer { Does result fuel.old fuel.new (application_row env.now scope.now head.now arguments.now) }
     ensures kept { IsSpentOf fuel.old fuel.new }
 {
     let f = elab_in(judge, alloc, env, scope, head, fuel)?;
@@ -369,7 +370,7 @@ fn named_application<J: Judge>(
     fuel: &mut Fuel,
 ) -> Result<Term, Stop>
     requires judged { MayJudge env.now scope.now }
-    ensures answer { Meets result (left fuel.new) (named_application_with env.now scope.now head.now (arguments_of arguments.now) fuel.old) }
+    ensures answer { Does result fuel.old fuel.new (named_application_row env.now scope.now head.now arguments.now) }
     ensures kept { IsSpentOf fuel.old fuel.new }
 {
     let f = elab_in(judge, alloc, env, scope, head, fuel)?;

@@ -6,7 +6,7 @@ ghost use Rattle.core_term.specs.Places.{lift_of};
 ghost use Rattle.cic_rules.specs.Contexts.{extended, plain_hyp, defined_hyp};
 ghost use Rattle.cic_rules.specs.Judges.{MayJudge, IsTermIn};
 ghost use Rattle.elaborator.specs.Names.{bound_name};
-ghost use Rattle.elaborator.specs.Parts.{opened};
+ghost use Rattle.elaborator.specs.Parts.{opened, lifted_hyp};
 
 use crate::names::bound_name;
 use crate::scope::Scope;
@@ -105,7 +105,7 @@ fn with_name(
 ) -> Result<Scope, Stop>
     requires fits { free_bound ty.now ≤ outer }
     requires inner { outer ≤ length inner.now }
-    ensures { Gives result (extended inner.now (plain_hyp (bound_name name.now) (lift_of ty.now (length inner.now - outer) 0))) }
+    ensures { Gives result (extended inner.now (lifted_hyp name.now ty.now (length inner.now - outer))) }
 {
     let by = inner.len() - outer;
     let hyp = Hyp {

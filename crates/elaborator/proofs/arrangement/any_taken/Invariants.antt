@@ -1,4 +1,4 @@
-use Rattle.std.proofs.Common.{◌≡◌, ◌+◌, ◌-◌, ◌++◌, length, drop, take, List, [], ◌∷◌, ℕ}
+use Rattle.std.proofs.Common.{◌≡◌, drop}
 use Rattle.elaborator.specs.Arrangement.{any_taken}
 use Rattle.elaborator.proofs.arrangement.any_taken.Given as goal
 

@@ -1,4 +1,4 @@
-use Rattle.std.proofs.Common.{◌≡◌, ◌+◌, ◌-◌, ◌++◌, length, drop, take, List, [], ◌∷◌, ℕ}
+use Rattle.std.proofs.Common.{◌≡◌, ◌++◌, drop}
 use Rattle.elaborator.proofs.arrangement.followed.Given as goal
 
 abbrev pub invariant-loop-k : goal.invariant-loop-k

@@ -1,4 +1,4 @@
-use Rattle.std.proofs.Common.{◌≡◌, ◌+◌, ◌-◌, ◌++◌, length, drop, take, List, [], ◌∷◌, ℕ}
+use Rattle.std.proofs.Common.{◌≡◌, drop}
 use Rattle.coq_syntax.specs.Nodes.{arguments_of}
 use Rattle.elaborator.specs.Arrangement.{seated}
 use Rattle.elaborator.proofs.arrangement.seated.Given as goal

@@ -1,4 +1,4 @@
-use Rattle.std.proofs.Common.{◌≡◌, ◌+◌, ◌-◌, ◌++◌, length, drop, take, List, [], ◌∷◌, ℕ}
+use Rattle.std.proofs.Common.{◌≡◌, ◌-◌, drop, take}
 use Rattle.elaborator.specs.Parts.{closed}
 use Rattle.elaborator.proofs.binders.close.Given as goal
 

@@ -1,4 +1,4 @@
-use Rattle.std.proofs.Common.{◌≡◌, ◌+◌, ◌-◌, ◌++◌, length, drop, take, List, [], ◌∷◌, ℕ}
+use Rattle.std.proofs.Common.{◌-◌, drop}
 use Rattle.elaborator.specs.Index.{IsIndex}
 use Rattle.elaborator.proofs.scope.index.Given as goal
 

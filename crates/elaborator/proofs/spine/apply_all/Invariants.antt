@@ -1,4 +1,4 @@
-use Rattle.std.proofs.Common.{◌≡◌, ◌+◌, ◌-◌, ◌++◌, length, drop, take, List, [], ◌∷◌, ℕ}
+use Rattle.std.proofs.Common.{◌≡◌, drop}
 use Rattle.elaborator.specs.Parts.{applied}
 use Rattle.elaborator.proofs.spine.apply_all.Given as goal
 

@@ -1,4 +1,4 @@
-use Rattle.std.proofs.Common.{◌≡◌, ◌+◌, ◌-◌, ◌++◌, length, drop, take, List, [], ◌∷◌, ℕ}
+use Rattle.std.proofs.Common.{◌≡◌, ◌++◌, drop}
 use Rattle.elaborator.specs.Arrangement.{picked}
 use Rattle.elaborator.proofs.spine.picked.Given as goal
 

@@ -1,4 +1,4 @@
-use Rattle.std.proofs.Common.{◌-◌, Some, None, ap, ◌∙◌, arith}
+use Rattle.std.proofs.Common.{◌-◌, Some, ap, ◌∙◌, arith}
 use Rattle.elaborator.specs.Names.{index_of}
 use Rattle.elaborator.proofs.IndexLaws.{found, not_found}
 use Rattle.elaborator.proofs.scope.Scope.find.Goals as goal
