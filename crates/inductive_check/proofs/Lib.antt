@@ -4,3 +4,7 @@ pub mod RowLaws
 pub mod OpenLaws
 pub mod PartLaws
 pub mod BehindLaws
+pub mod LabelLaws
+pub mod LevelLaws
+pub mod SizeLaws
+pub mod CaseLaws
