@@ -1,6 +1,6 @@
 -- Names in the types of eliminators.
-use Rattle.std.specs.Prelude.{◌≡◌, ℕ, zero, suc, ◌+◌, ◌-◌, ◌/◌, ◌%◌, ◌<◌, ◌≤◌, ◌==◌, nat_lt, List, [], ◌∷◌, ◌++◌, length, Bool, true, false, Option, Some, None, slice_get, if◌then◌else◌, refl}
-use Rattle.std.proofs.Common.{arith, ap, sym, ◌∙◌, append_assoc}
+use Rattle.std.specs.Prelude.{◌≡◌, ℕ, zero, suc, ◌+◌, ◌-◌, ◌/◌, ◌%◌, ◌<◌, ◌≤◌, ◌==◌, nat_lt, List, [], ◌∷◌, ◌++◌, length, Bool, true, false, Option, Some, None, Result, OnOk, slice_get, if◌then◌else◌, refl}
+use Rattle.std.proofs.Common.{arith, ap, sym, ◌∙◌, subst, append_assoc}
 use Rattle.std.proofs.lemmas.Bool.Decides.{nat_tests}
 use Rattle.core_term.specs.Tree.{Tree, Var, Sorted, Constant, Prod, Lam, LetIn, App}
 use Rattle.term_spine.specs.Spine.{head_of}
@@ -54,6 +54,13 @@ digits_one n lt =
     let small : nat_lt n 10 ≡ true = grind (arith, nat_tests, lt) in
     let same : n ≡ n % 10 = omega (arith, lt) in
     ap (λ b. if b then (48 + n) ∷ [] else digits_before n (n / 10) ((48 + n % 10) ∷ [])) small ∙ ap (λ m. (48 + m) ∷ []) same
+
+-- a digit behind those of a tenth
+pub digits_next : {A E : Type 0} (r : Result A E) (new mid old : List ℕ) (n : ℕ) → 10 ≤ n → mid ≡ old ++ digits (n / 10) →
+    OnOk r (new ≡ mid ++ ((48 + n % 10) ∷ [])) → OnOk r (new ≡ old ++ digits n)
+digits_next r new mid old n ge made told =
+    subst (λ u. OnOk r (new ≡ u))
+    (ap (λ m. m ++ ((48 + n % 10) ∷ [])) made ∙ append_assoc old (digits (n / 10)) ((48 + n % 10) ∷ []) ∙ ap (λ d. old ++ d) (sym (digits_more n ge))) told
 
 pub is_taken : (names : List (List ℕ)) (stem : List ℕ) (k n : ℕ) → k < n → has_name names (stem ++ digits k) ≡ true →
     first_free (n - k) names stem k ≡ first_free (n - (k + 1)) names stem (k + 1)

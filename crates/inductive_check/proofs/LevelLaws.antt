@@ -225,12 +225,22 @@ values_next f depth ls (suc at) l some found =
     ap (λ n. apply_all (App f (variable_at depth l)) (newest_first (take n (values_at depth ls)) [])) one
     ∙ ap (apply_all f) (sym (newest_next (values_at depth ls) at (variable_at depth l) [] got))
 
+take_whole : (ts : List Tree) → take (length ts) ts ≡ ts
+take_whole [] = refl
+take_whole (t ∷ ts) = ap (λ more. t ∷ more) (take_whole ts)
+
+pub values_whole : (f : Tree) (depth : ℕ) (ls : List ℕ) (n : ℕ) → n ≡ length ls →
+    apply_all f (newest_first (take n (values_at depth ls)) []) ≡ apply_all f (newest_first (values_at depth ls) [])
+values_whole f depth ls n e =
+    ap (λ k. apply_all f (newest_first (take k (values_at depth ls)) [])) (e ∙ sym (values_length depth ls))
+    ∙ ap (λ vs. apply_all f (newest_first vs [])) (take_whole (values_at depth ls))
+
 -- .. so what is made of the first is made of all
 pub applied_gives : (r : Result Tree TermStop) (f v x next whole : Tree) (args : List Tree) → Ok v ≡ within_limits x → Ok next ≡ within_limits (App f v) →
     apply_all (App f x) args ≡ whole → Gives r (within_limits (apply_all next args)) → Gives r (within_limits whole)
-applied_gives r f v x next whole args made then is gives =
+applied_gives r f v x next whole args made joined is gives =
     let same : apply_all next args ≡ whole =
-    ap (λ t. apply_all t args) (same_term next (App f v) then) ∙ ap (λ t. apply_all (App f t) args) (same_term v x made) ∙ is in
+    ap (λ t. apply_all t args) (same_term next (App f v) joined) ∙ ap (λ t. apply_all (App f t) args) (same_term v x made) ∙ is in
     subst (λ t. Gives r (within_limits t)) same gives
 
 pub applied_ends : (stop : TermStop) (f v x whole : Tree) (args : List Tree) → Ok v ≡ within_limits x → apply_all (App f x) args ≡ whole →

@@ -8,3 +8,6 @@ pub mod LabelLaws
 pub mod LevelLaws
 pub mod SizeLaws
 pub mod CaseLaws
+pub mod EntryLaws
+pub mod TopLaws
+pub mod OverLaws

@@ -5,3 +5,4 @@ pub mod Steps
 pub mod Labels
 pub mod Levels
 pub mod Elimination
+pub mod Entries

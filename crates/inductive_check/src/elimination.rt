@@ -9,7 +9,7 @@ ghost use Rattle.inductive_check.specs.Elimination.{IsMotive, motive_at, motive_
 
 use crate::forms::mentions;
 use crate::labels::{argument_name, case_name, hypothesis_name, value_name};
-use crate::levels::{Site, applied_to_context, applied_to_indices, applied_to_row, placed, within};
+use crate::levels::{Site, applied_to_context, applied_to_indices, applied_to_row, level_variable, placed, within};
 use crate::names::Names;
 use base_core::Text;
 use cic_rules::{CheckedInductive, Ctor, GlobalEnv};
@@ -28,12 +28,12 @@ pub(crate) struct Motive {
 fn motive_variable(alloc: Global, m: Motive, site: &Site) -> Result<Term, TermStop>
     ensures { Gives result (within_limits (motive_at m site.now)) }
 {
-    Term::var(alloc, site.depth.saturating_sub(1).saturating_sub(m.level))
+    level_variable(alloc, site, m.level)
 }
 
 /// The type of the motive: from the indices, and where the type is no proposition from the value,
 /// to the sort. So many variables are about.
-fn motive_type(
+pub(crate) fn motive_type(
     alloc: Global,
     env: &GlobalEnv,
     i: &CheckedInductive,
@@ -74,7 +74,7 @@ fn motive_end(
     requires motive { IsMotive m i.now.decl }
     requires sort { IsSort sort }
     requires room { count ≤ 2 ^ 31 }
-    ensures { Gives result (within_limits (motive_end_at i.now count sort)) }
+    ensures { Gives result (within_limits (motive_end_at i.now m count sort)) }
 {
     if m.is_prop {
         return Term::sort(alloc, sort);
@@ -102,7 +102,7 @@ fn hypothesis(
     requires motive { IsMotive m i.now.decl }
     requires place { MayPlace site.now ty.now }
     requires below { m.level < site.now.depth }
-    requires room { site.now.depth + own + depth_of ty.now ≤ 2 ^ 31 }
+    requires room { site.now.depth + own + 2 * depth_of ty.now < 2 ^ 31 }
     ensures { Gives result (within_limits (hypothesis_at (with_type env.now i.now) i.now m site.now own ty.now)) }
 {
     match ty.node() {
@@ -133,7 +133,7 @@ fn hypothesis_over(
     requires first { MayPlace site.now a.now }
     requires rest { free_bound b.now ≤ length site.now.levels + 1 }
     requires below { m.level < site.now.depth }
-    requires room { site.now.depth + own + depth_of b.now + 2 ≤ 2 ^ 31 }
+    requires room { site.now.depth + own + 2 * depth_of b.now + 2 < 2 ^ 31 }
     ensures { Gives result (within_limits (hypothesis_over_at (with_type env.now i.now) i.now m site.now own name.now a.now b.now)) }
 {
     let name = name.share()?;
@@ -191,7 +191,7 @@ fn conclusion(
     requires motive { IsMotive m i.now.decl }
     requires place { MayPlace site.now arity.now }
     requires below { m.level < site.now.depth }
-    requires room { site.now.depth + own + depth_of arity.now ≤ 2 ^ 31 }
+    requires room { site.now.depth + own + 2 * depth_of arity.now < 2 ^ 31 }
     ensures { Gives result (within_limits (conclusion_at (with_type env.now i.now) i.now m site.now own arity.now)) }
 {
     match arity.node() {
@@ -222,7 +222,7 @@ fn conclusion_over(
     requires first { MayPlace site.now a.now }
     requires rest { free_bound b.now ≤ length site.now.levels + 1 }
     requires below { m.level < site.now.depth }
-    requires room { site.now.depth + own + depth_of b.now + 2 ≤ 2 ^ 31 }
+    requires room { site.now.depth + own + 2 * depth_of b.now + 2 < 2 ^ 31 }
     ensures { Gives result (within_limits (conclusion_over_at (with_type env.now i.now) i.now m site.now own name.now a.now b.now)) }
 {
     let name = name.share()?;
@@ -247,7 +247,7 @@ fn conclusion_end(
     requires motive { IsMotive m i.now.decl }
     requires place { IsSite site.now }
     requires below { m.level < site.now.depth }
-    requires room { site.now.depth + own < 2 ^ 32 }
+    requires room { site.now.depth + own < 2 ^ 31 }
     ensures { Gives result (within_limits (conclusion_end_at i.now m site.now own)) }
 {
     let name = value_name(alloc, &i.decl)?;
@@ -292,7 +292,7 @@ fn case_type(
     requires env { i.now.place ≡ length env.now }
     requires place { MayPlace site.now ty.now }
     requires below { m.level < site.now.depth }
-    requires room { site.now.depth + 2 * depth_of ty.now ≤ 2 ^ 31 }
+    requires room { site.now.depth + 2 * depth_of ty.now < 2 ^ 31 }
     ensures { Gives result (within_limits (case_at (with_type env.now i.now) i.now m ctor site.now names.now ty.now)) }
 {
     match ty.node() {
@@ -331,7 +331,7 @@ fn plain_case(
     requires first { MayPlace site.now a.now }
     requires rest { free_bound b.now ≤ length site.now.levels + 1 }
     requires below { m.level < site.now.depth }
-    requires room { site.now.depth + 2 * depth_of b.now + 2 ≤ 2 ^ 31 }
+    requires room { site.now.depth + 2 * depth_of b.now + 2 < 2 ^ 31 }
     ensures { Gives result (within_limits (plain_case_at (with_type env.now i.now) i.now m ctor site.now names.now name a.now b.now)) }
 {
     let inner = site.with_variable(alloc)?;
@@ -364,16 +364,16 @@ fn recursive_case(
     requires first { MayPlace site.now a.now }
     requires rest { free_bound b.now ≤ length site.now.levels + 1 }
     requires below { m.level < site.now.depth }
-    requires room { site.now.depth + 2 * depth_of b.now + 2 ≤ 2 ^ 31 }
-    requires own { site.now.depth + 2 + depth_of a.now ≤ 2 ^ 31 }
+    requires room { site.now.depth + 2 * depth_of b.now + 2 < 2 ^ 31 }
+    requires own { site.now.depth + 2 * depth_of a.now + 2 < 2 ^ 31 }
     ensures { Gives result (within_limits (recursive_case_at (with_type env.now i.now) i.now m ctor site.now names.now name a.now b.now)) }
 {
     let label = hypothesis_name(alloc, &name)?;
     let under = site.with_binder()?;
     let inner = site.with_variable(alloc)?;
     let behind = inner.with_binder()?;
-    let within = names.with(alloc, &name)?;
-    let within = within.with(alloc, &label)?;
+    let seen = names.with(alloc, &name)?;
+    let within = seen.with(alloc, &label)?;
     match placed(alloc, a, site) {
         Ok(domain) => match hypothesis(alloc, env, i, m, &under, 0, a) {
             Ok(says) => match case_type(alloc, env, i, m, ctor, &behind, &within, b) {
@@ -432,7 +432,7 @@ fn case_end(
 }
 
 /// The cases from a constructor on, and then the conclusion.
-fn cases(
+pub(crate) fn cases(
     alloc: Global,
     env: &GlobalEnv,
     i: &CheckedInductive,
@@ -448,7 +448,7 @@ fn cases(
     requires ctors { AreCtorsPlaced site.now ctors.now }
     requires below { m.level < site.now.depth }
     requires room { site.now.depth + length ctors.now + 4000 ≤ 2 ^ 31 }
-    requires count { index + length ctors.now ≤ 2 ^ 31 }
+    requires count { i.now.place + index + length ctors.now < 2 ^ 32 }
     ensures { Gives result (within_limits (cases_at (with_type env.now i.now) i.now m index site.now names.now ctors.now)) }
 {
     match ctors {

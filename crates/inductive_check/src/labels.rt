@@ -14,13 +14,14 @@ use core_term::{Node, Term};
 use std::alloc::Global;
 
 /// A number in decimal digits behind a text.
-#[tactic(auto, using(crate::proofs::LabelLaws::digits_more, crate::proofs::LabelLaws::digits_one))]
+#[tactic(auto, using(crate::proofs::LabelLaws::digits_one))]
 fn push_digits(text: &mut String, n: usize) -> Result<(), NoMem>
     ensures { OnOk result (string_bytes text.new ≡ string_bytes text.old ++ digits n) }
 {
-    if n >= 10 {
-        push_digits(text, n / 10)?;
+    if n < 10 {
+        return push_letter(text, 48 + n as u8);
     }
+    push_digits(text, n / 10)?;
     push_letter(text, 48 + (n % 10) as u8)
 }
 

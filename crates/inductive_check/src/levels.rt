@@ -7,7 +7,7 @@ ghost use Rattle.term_spine.specs.Spine.{apply_all, arguments_of};
 ghost use Rattle.term_spine.specs.Instantiate.{instantiate, instantiate_all, instantiate_under};
 ghost use Rattle.cic_rules.specs.Families.{newest_first, indices};
 ghost use Rattle.inductive_check.specs.Forms.{params_under};
-ghost use Rattle.inductive_check.specs.Levels.{values_at, IsSite, MayPlace, MayPlaceAll};
+ghost use Rattle.inductive_check.specs.Levels.{variable_at, values_at, IsSite, MayPlace, MayPlaceAll};
 
 use crate::forms::spine;
 use base_core::NoMem;
@@ -121,6 +121,13 @@ fn placed_variable(site: &Site, i: u32, binders: u32) -> u32
     }
 }
 
+/// The variable of the binder at a level.
+pub(crate) fn level_variable(alloc: Global, site: &Site, level: u32) -> Result<Term, TermStop>
+    ensures { Gives result (within_limits (variable_at site.now.depth level)) }
+{
+    Term::var(alloc, site.depth.saturating_sub(1).saturating_sub(level))
+}
+
 /// A term that was made passes no limit.
 #[tactic(auto, using(crate::proofs::SizeLaws::term_is_within))]
 pub(crate) fn within(t: Term) -> Result<Term, TermStop>
@@ -174,7 +181,7 @@ fn applied_from(alloc: Global, function: Term, site: &Site, at: usize) -> Result
     let Some(level) = site.levels.get(at - 1) else {
         return Err(TermStop::NoMem);
     };
-    let variable = Term::var(alloc, site.depth.saturating_sub(1).saturating_sub(*level))?;
+    let variable = level_variable(alloc, site, *level)?;
     match Term::app(alloc, function, variable) {
         Ok(next) => applied_from(alloc, next, site, at - 1),
         Err(stop) => Err(stop),
