@@ -1,5 +1,5 @@
 -- The entries of an inductive type, one after another.
-use Rattle.std.specs.Prelude.{◌≡◌, ℕ, zero, suc, ◌+◌, ◌-◌, ◌≤◌, ◌<◌, ◌&&◌, List, [], ◌∷◌, ◌++◌, length, drop, Bool, true, false, Result, Ok, Err, if◌then◌else◌, refl}
+use Rattle.std.specs.Prelude.{◌≡◌, ℕ, zero, suc, ◌+◌, ◌-◌, ◌≤◌, ◌<◌, ◌&&◌, List, [], ◌∷◌, ◌++◌, length, drop, Bool, true, false, Result, Ok, Err, OnOk, if◌then◌else◌, refl}
 use Rattle.std.proofs.Common.{arith, ap, sym, ◌∙◌, subst, append_assoc}
 use Rattle.std.proofs.lemmas.Bool.Decides.{nat_tests}
 use Rattle.base_core.specs.declared.refusals.Stop.{Stop}
@@ -15,16 +15,17 @@ use Rattle.cic_rules.specs.Families.{count_params, newest_first}
 use Rattle.cic_rules.specs.declared.decls.Ctor.{Ctor}
 use Rattle.cic_rules.specs.declared.decls.InductiveDecl.{InductiveDecl}
 use Rattle.cic_rules.specs.declared.entries.Entry.{Entry}
+use Rattle.cic_rules.specs.declared.entries.EntryKind.{EntryKind}
 use Rattle.cic_rules.specs.declared.env.Slot.{Slot}
 use Rattle.cic_rules.specs.declared.families.CheckedInductive.{CheckedInductive}
 use Rattle.cic_rules.specs.Contexts.{products_over}
 use Rattle.cic_rules.specs.Declare.{are_small, types_of, eliminators}
-use Rattle.cic_rules.specs.Eliminators.{eliminator_type, type_entry, ctor_entries, eliminator_entries, family_entries, cases, case_name, motive_type, MOTIVE, hyp_names}
+use Rattle.cic_rules.specs.Eliminators.{type_of_decl, eliminator_type, type_entry, ctor_entries, eliminator_entries, family_entries, cases, case_name, motive_type, MOTIVE, hyp_names}
 use Rattle.cic_rules.specs.Judges.{IsNeverRefused}
 use Rattle.inductive_check.specs.Entries.{Adds, AreSomeSorts, HasFew}
 use Rattle.inductive_check.specs.Labels.{with_type}
 use Rattle.inductive_check.specs.Steps.{sized}
-use Rattle.inductive_check.proofs.PartLaws.{over_count}
+use Rattle.inductive_check.proofs.PartLaws.{counts_small}
 
 small_by : (b : Bool) (t : Tree) → ◌≡◌ {A = Result Tree Stop} (Ok t) (if b then Ok t else Err (Out SizeLimit)) → b ≡ true
 small_by true t e = refl
@@ -52,16 +53,16 @@ second_false true b p = p
 second_false false b p = refl
 
 -- nothing, and one entry
-pub adds_none : {A : Type 0} (u : A) (old : List Entry) → Adds (Ok {E = Stop} u) old old []
+pub adds_none : (u : Unit {0}) (old : List Entry) → Adds (Ok u) old old []
 adds_none u old = (sym (append_none old), refl) where
   append_none : (es : List Entry) → es ++ [] ≡ es
   append_none [] = refl
   append_none (e ∷ es) = ap (λ more. e ∷ more) (append_none es)
 
-pub adds_one : {A : Type 0} (r : Result A Stop) (new old : List Entry) (e f : Entry) → f ≡ e → Adds r new old (f ∷ []) → Adds r new old (e ∷ [])
+pub adds_one : (r : Result (Unit {0}) Stop) (new old : List Entry) (e f : Entry) → f ≡ e → Adds r new old (f ∷ []) → Adds r new old (e ∷ [])
 adds_one r new old e f same adds = subst (λ x. Adds r new old (x ∷ [])) same adds
 
-pub adds_small : {A : Type 0} (u : A) (new old : List Entry) (e : Entry) → IsTerm e.ty → new ≡ old ++ (e ∷ []) → Adds (Ok {E = Stop} u) new old (e ∷ [])
+pub adds_small : (u : Unit {0}) (new old : List Entry) (e : Entry) → IsTerm e.ty → new ≡ old ++ (e ∷ []) → Adds (Ok u) new old (e ∷ [])
 adds_small u new old e is made = (made, both_true (is_small e.ty) true (term_small e.ty is) refl)
 
 pub sized_same_by : (b : Bool) (x t : Tree) → ◌≡◌ {A = Result Tree Stop} (Ok x) (if b then Ok t else Err (Out SizeLimit)) → x ≡ t
@@ -76,7 +77,7 @@ out_by true l t e = cc
 out_by false l t e = (cc, refl)
 
 -- a type that is too large
-pub adds_stop : {A : Type 0} (stop : Stop) (new old : List Entry) (e : Entry) → Gives {A = Tree} (Err stop) (sized e.ty) → Adds {A = A} (Err stop) new old (e ∷ [])
+pub adds_stop : (stop : Stop) (new old : List Entry) (e : Entry) → Gives {A = Tree} (Err stop) (sized e.ty) → Adds (Err stop) new old (e ∷ [])
 adds_stop (Refused r) new old e gives = refused_by (is_small e.ty) gives where
   refused_by : (b : Bool) → ◌≡◌ {A = Result Tree Stop} (Err (Refused r)) (if b then Ok e.ty else Err (Out SizeLimit)) → ⊥
   refused_by true m = cc
@@ -85,7 +86,7 @@ adds_stop (Out l) new old e gives = let both = out_by (is_small e.ty) l e.ty giv
 adds_stop NoMem new old e gives = tt
 
 -- some entries, and then others
-pub adds_more : {A B : Type 0} (u : A) (r : Result B Stop) (new mid old : List Entry) (es fs : List Entry) → Adds (Ok {E = Stop} u) mid old es → Adds r new mid fs →
+pub adds_more : (u : Unit {0}) (r : Result (Unit {0}) Stop) (new mid old : List Entry) (es fs : List Entry) → Adds (Ok u) mid old es → Adds r new mid fs →
     Adds r new old (es ++ fs)
 adds_more u (Ok v) new mid old es fs first second =
     (second.0 ∙ ap (λ x. x ++ fs) first.0 ∙ append_assoc old es fs, small_join es fs ∙ both_true (are_small (types_of es)) (are_small (types_of fs)) first.1 second.1)
@@ -94,24 +95,33 @@ adds_more u (Err (Out l)) new mid old es fs first second =
     (second.0, small_join es fs ∙ second_false (are_small (types_of es)) (are_small (types_of fs)) second.1)
 adds_more u (Err NoMem) new mid old es fs first second = tt
 
-pub adds_cut : {A B : Type 0} (stop : Stop) (new mid old : List Entry) (es fs : List Entry) → Adds {A = A} (Err stop) mid old es → Adds {A = B} (Err stop) new old (es ++ fs)
+pub adds_cut : (stop : Stop) (new mid old : List Entry) (es fs : List Entry) → Adds (Err stop) mid old es → Adds (Err stop) new old (es ++ fs)
 adds_cut (Refused r) new mid old es fs first = first
 adds_cut (Out l) new mid old es fs first = (first.0, small_join es fs ∙ first_false (are_small (types_of es)) (are_small (types_of fs)) first.1)
 adds_cut NoMem new mid old es fs first = tt
 
 -- what all entries give
-pub given_all : {A : Type 0} (u : A) (env : List Slot) (c : CheckedInductive) (new : List Entry) →
-    Adds (Ok {E = Stop} u) new [] (family_entries env c.decl c.used c.sorts) → Gives (Ok new) (eliminators env c)
-given_all u env c new adds =
-    ap (λ es. Ok {E = Stop} es) adds.0
-    ∙ ap (λ b. if b then Ok {E = Stop} (family_entries env c.decl c.used c.sorts) else Err (Out SizeLimit)) (sym adds.1)
+abbrev given : List Entry → Result (List Entry) Stop
+given es = Ok es
 
-pub given_none : {A : Type 0} (stop : Stop) (env : List Slot) (c : CheckedInductive) (new : List Entry) →
-    Adds {A = A} (Err stop) new [] (family_entries env c.decl c.used c.sorts) → Gives {A = List Entry} (Err stop) (eliminators env c) × IsNeverRefused {A = List Entry} (Err stop)
+abbrev out : Limit → Result (List Entry) Stop
+out l = Err (Out l)
+
+abbrev chosen : List Entry → Bool → Result (List Entry) Stop
+chosen es b = if b then Ok es else Err (Out SizeLimit)
+
+pub given_all : (u : Unit {0}) (env : List Slot) (c : CheckedInductive) (new : List Entry) →
+    Adds (Ok u) new [] (family_entries env c.decl c.used c.sorts) → Gives (Ok new) (eliminators env c)
+given_all u env c new adds =
+    ap given adds.0
+    ∙ ap (chosen (family_entries env c.decl c.used c.sorts)) (sym adds.1)
+
+pub given_none : (stop : Stop) (env : List Slot) (c : CheckedInductive) (new : List Entry) →
+    Adds (Err stop) new [] (family_entries env c.decl c.used c.sorts) → Gives {A = List Entry} (Err stop) (eliminators env c) × IsNeverRefused {A = List Entry} (Err stop)
 given_none (Refused r) env c new adds = absurd adds
 given_none (Out l) env c new adds =
-    (ap (λ x. Err {A = List Entry} (Out x)) adds.0
-    ∙ ap (λ b. if b then Ok {E = Stop} (family_entries env c.decl c.used c.sorts) else Err (Out SizeLimit)) (sym adds.1), tt)
+    (ap out adds.0
+    ∙ ap (chosen (family_entries env c.decl c.used c.sorts)) (sym adds.1), tt)
 given_none NoMem env c new adds = (tt, tt)
 
 -- a type with too many constructors has an eliminator whose type is too large
@@ -150,11 +160,18 @@ too_many env c some many =
     second_false (is_small (type_entry c.decl c.used).ty) (are_small (types_of (ctor_entries (length env) c.decl 0 c.decl.ctors ++ eliminator_entries (with_type env c) (length env) c.decl c.sorts)))
     (small_join (ctor_entries (length env) c.decl 0 c.decl.ctors) (eliminator_entries (with_type env c) (length env) c.decl c.sorts)
     ∙ second_false (are_small (types_of (ctor_entries (length env) c.decl 0 c.decl.ctors))) (are_small (types_of (eliminator_entries (with_type env c) (length env) c.decl c.sorts))) last) in
-    sym (ap (λ b. if b then Ok {E = Stop} (family_entries env c.decl c.used c.sorts) else Err (Out SizeLimit)) large)
+    sym (ap (chosen (family_entries env c.decl c.used c.sorts)) large)
 
--- a type that is not too large has few parameters
-pub few_params : (d : InductiveDecl) → is_small (products_over d.params d.arity) ≡ true → length d.ctors ≤ 1000 → HasFew d
-few_params d small many =
-    let count = over_count d.params d.arity in
-    let shallow : depth_of (products_over d.params d.arity) ≤ 1000 = grind (arith, nat_tests, small) in
-    record { params = omega (arith, count, shallow); ctors = many }
+-- the same entry by its parts
+pub entry_same : (n m : List ℕ) (t s : Tree) (k l : EntryKind) (u v : List ℕ) → n ≡ m → t ≡ s → k ≡ l → u ≡ v →
+    ◌≡◌ {A = Entry} (record { name = n; ty = t; kind = k; used = u }) (record { name = m; ty = s; kind = l; used = v })
+entry_same n m t s k l u v name type kind used =
+    ap (λ x. record { name = x; ty = t; kind = k; used = u }) name ∙ ap (λ x. record { name = m; ty = x; kind = k; used = u }) type
+    ∙ ap (λ x. record { name = m; ty = s; kind = x; used = u }) kind ∙ ap (λ x. record { name = m; ty = s; kind = l; used = x }) used
+
+pub few_of : (d : InductiveDecl) (ty : Tree) → Ok ty ≡ sized (type_of_decl d) → length d.ctors ≤ 1000 → HasFew d
+few_of d ty e many = let small = counts_small d ty e in record { params = omega (arith, small); ctors = many }
+
+pub on_any : {A E : Type 0} (P : Type 0) (r : Result A E) → P → OnOk r P
+on_any P (Ok x) p = p
+on_any P (Err e) p = tt

@@ -21,7 +21,7 @@ use Rattle.inductive_check.specs.Levels.{levels_of}
 use Rattle.inductive_check.specs.Elimination.{motive_type_at, cases_at}
 
 -- a call puts these entries behind the others, out of size exactly where one of their types is too large
-abbrev pub Adds : {A : Type 0} → Result A Stop → List Entry → List Entry → List Entry → Type 0
+abbrev pub Adds : Result (Unit {0}) Stop → List Entry → List Entry → List Entry → Type 0
 Adds (Ok u) new old es = (new ≡ old ++ es) × (are_small (types_of es) ≡ true)
 Adds (Err (Refused r)) new old es = ⊥
 Adds (Err (Out l)) new old es = (l ≡ SizeLimit) × (are_small (types_of es) ≡ false)

@@ -28,7 +28,6 @@ use std::alloc::Global;
 /// The entries of an inductive type that passed its test in this environment: the type, its
 /// constructors, and its eliminators into the sorts that they may go into. Out of size exactly
 /// where one of their types is too large.
-#[tactic(auto, using(crate::proofs::TopLaws::may_eliminate, crate::proofs::TopLaws::sorts_of_checked))]
 pub fn eliminators(alloc: Global, env: &GlobalEnv, i: &CheckedInductive) -> Result<EntryList, Stop>
     requires { IsChecked env.now i.now }
     ensures answer { Gives result (entries_of env.now i.now) }
