@@ -2,23 +2,23 @@
 use Rattle.std.specs.Prelude.{◌≡◌, ℕ, suc, ◌+◌, ◌-◌, ◌<◌, List, [], ◌∷◌, Bool, true, false, if◌then◌else◌, refl}
 use Rattle.std.proofs.Common.{arith, ap, sym, ◌∙◌}
 use Rattle.core_term.specs.declared.sorts.Sort.{Sort}
-use Rattle.core_term.specs.Tree.{Tree, Var, Sorted, Constant, Prod, App}
+use Rattle.core_term.specs.Tree.{Tree, Var, Constant, Prod, App}
 use Rattle.core_term.specs.declared.terms.Node.{Node}
 use Rattle.core_term.specs.declared.terms.Node.TheVariants as node
 use Rattle.core_term.specs.Nodes.{tree_of}
 use Rattle.term_spine.specs.Globals.{mentions}
-use Rattle.term_spine.specs.Instantiate.{instantiate, instantiate_all, values_under}
+use Rattle.term_spine.specs.Instantiate.{instantiate, values_under}
 use Rattle.term_spine.specs.Spine.{apply_all, shift, shift_all, eta_body}
 use Rattle.cic_rules.specs.declared.decls.Ctor.{Ctor}
 use Rattle.cic_rules.specs.declared.env.Slot.{Slot}
 use Rattle.cic_rules.specs.declared.families.CheckedInductive.{CheckedInductive}
-use Rattle.cic_rules.specs.Families.{count_params, indices, newest_first}
+use Rattle.cic_rules.specs.Families.{newest_first}
 use Rattle.cic_rules.specs.Scopes.{AreBefore}
 use Rattle.cic_rules.specs.Eliminators.{is_in_prop, with_argument, with_binder as with_other, argument_name, hypothesis_name, case_name, value_name, hypothesis, case_argument, case_type, conclusion, motive_type, cases}
 use Rattle.inductive_check.specs.declared.elimination.Motive.{Motive}
 use Rattle.inductive_check.specs.declared.levels.Site.{Site}
 use Rattle.inductive_check.specs.Forms.{params_under}
-use Rattle.inductive_check.specs.Elimination.{IsMotive, own_row, values_of, with_variable, with_binder, motive_at, motive_applied, hypothesis_end_at, case_end_at, conclusion_end_at, motive_end_at, motive_type_at, hypothesis_at, conclusion_at, scope_at, case_at, plain_case_at, recursive_case_at, cases_at}
+use Rattle.inductive_check.specs.Elimination.{IsMotive, own_row, values_of, with_variable, with_binder, motive_at, conclusion_end_at, motive_type_at, hypothesis_at, conclusion_at, scope_at, case_at, plain_case_at, recursive_case_at, cases_at}
 use Rattle.inductive_check.proofs.FormLaws.{shift_var}
 use Rattle.inductive_check.proofs.LevelLaws.{values_shift, values_more, row_eta, row_shift, built_shift, built_more}
 
@@ -98,43 +98,6 @@ module _ (env : List Slot) (i : CheckedInductive) (m : Motive) where
       ∙ ap (λ t. Prod (case_name c) (case_at env i m (i.place + 1 + index) s names c.ty) (cases env i.place i.decl (index + 1) cs t (shift_all (values_of s)) (case_name c ∷ names))) (motive_shift m s lt)
       ∙ ap (λ vs. Prod (case_name c) (case_at env i m (i.place + 1 + index) s names c.ty) (cases env i.place i.decl (index + 1) cs (motive_at m (with_binder s)) vs (case_name c ∷ names))) (values_shift s.depth s.levels above)
 
-  -- ends
-  hypothesis_by : (s : Site) (own : ℕ) (t : Tree) → IsMotive m i.decl →
-      (if is_in_prop i.decl then apply_all (motive_at m s) (instantiate_all (values_of s) (indices (count_params i.decl) t))
-      else App (apply_all (motive_at m s) (instantiate_all (values_of s) (indices (count_params i.decl) t))) (own_row own))
-      ≡ hypothesis_end_at i m s own t
-  hypothesis_by s own t is =
-      ap (λ k. if is_in_prop i.decl then apply_all (motive_at m s) (instantiate_all (values_of s) (indices k t)) else App (apply_all (motive_at m s) (instantiate_all (values_of s) (indices k t))) (own_row own)) (sym is.level)
-      ∙ ap (λ p. if p then motive_applied i m s t else App (motive_applied i m s t) (own_row own)) (sym is.is_prop)
-
-  pub hypothesis_end : (s : Site) (own : ℕ) (top : Node) → ((n : List ℕ) (a b : Tree) → top ≡ node.Prod n a b → ⊥) → IsMotive m i.decl →
-      hypothesis_at env i m s own (tree_of top) ≡ hypothesis_end_at i m s own (tree_of top)
-  hypothesis_end s own (node.Prod n a b) apart is = absurd (apart n a b refl)
-  hypothesis_end s own (node.Var x) apart is = hypothesis_by s own (tree_of (node.Var x)) is
-  hypothesis_end s own (node.Sorted x) apart is = hypothesis_by s own (tree_of (node.Sorted x)) is
-  hypothesis_end s own (node.Constant x) apart is = hypothesis_by s own (tree_of (node.Constant x)) is
-  hypothesis_end s own (node.Lam n a b) apart is = hypothesis_by s own (tree_of (node.Lam n a b)) is
-  hypothesis_end s own (node.LetIn n a t b) apart is = hypothesis_by s own (tree_of (node.LetIn n a t b)) is
-  hypothesis_end s own (node.App f a) apart is = hypothesis_by s own (tree_of (node.App f a)) is
-
-  case_by : (ctor : ℕ) (s : Site) (t : Tree) → IsMotive m i.decl →
-      (if is_in_prop i.decl then apply_all (motive_at m s) (instantiate_all (values_of s) (indices (count_params i.decl) t))
-      else App (apply_all (motive_at m s) (instantiate_all (values_of s) (indices (count_params i.decl) t))) (apply_all (Constant ctor) (newest_first (values_of s) [])))
-      ≡ case_end_at i m ctor s t
-  case_by ctor s t is =
-      ap (λ k. if is_in_prop i.decl then apply_all (motive_at m s) (instantiate_all (values_of s) (indices k t)) else App (apply_all (motive_at m s) (instantiate_all (values_of s) (indices k t))) (apply_all (Constant ctor) (newest_first (values_of s) []))) (sym is.level)
-      ∙ ap (λ p. if p then motive_applied i m s t else App (motive_applied i m s t) (apply_all (Constant ctor) (newest_first (values_of s) []))) (sym is.is_prop)
-
-  pub case_end : (ctor : ℕ) (s : Site) (names : List (List ℕ)) (top : Node) → ((n : List ℕ) (a b : Tree) → top ≡ node.Prod n a b → ⊥) → IsMotive m i.decl →
-      case_at env i m ctor s names (tree_of top) ≡ case_end_at i m ctor s (tree_of top)
-  case_end ctor s names (node.Prod n a b) apart is = absurd (apart n a b refl)
-  case_end ctor s names (node.Var x) apart is = case_by ctor s (tree_of (node.Var x)) is
-  case_end ctor s names (node.Sorted x) apart is = case_by ctor s (tree_of (node.Sorted x)) is
-  case_end ctor s names (node.Constant x) apart is = case_by ctor s (tree_of (node.Constant x)) is
-  case_end ctor s names (node.Lam n a b) apart is = case_by ctor s (tree_of (node.Lam n a b)) is
-  case_end ctor s names (node.LetIn n a t b) apart is = case_by ctor s (tree_of (node.LetIn n a t b)) is
-  case_end ctor s names (node.App f a) apart is = case_by ctor s (tree_of (node.App f a)) is
-
   at_by : (p : Bool) (s : Site) (own : ℕ) → m.level < s.depth →
       (if p then shift (apply_all (motive_at m s) (params_under 0 own)) else App (shift (apply_all (motive_at m s) (params_under 0 own))) (Var 0))
       ≡ (if p then apply_all (motive_at m (with_binder s)) (params_under 1 own) else apply_all (motive_at m (with_binder s)) (params_under 0 (own + 1)))
@@ -159,18 +122,3 @@ module _ (env : List Slot) (i : CheckedInductive) (m : Motive) where
   conclusion_end s own (node.Lam n a b) apart lt is = conclusion_by s own lt is
   conclusion_end s own (node.LetIn n a t b) apart lt is = conclusion_by s own lt is
   conclusion_end s own (node.App f a) apart lt is = conclusion_by s own lt is
-
-  motive_by : (count : ℕ) (sort : Sort) → IsMotive m i.decl →
-      (if is_in_prop i.decl then Sorted sort else Prod (value_name i.decl) (apply_all (Constant i.place) (params_under 0 count)) (Sorted sort)) ≡ motive_end_at i m count sort
-  motive_by count sort is =
-      ap (λ p. if p then Sorted sort else Prod (value_name i.decl) (apply_all (Constant i.place) (params_under 0 count)) (Sorted sort)) (sym is.is_prop)
-
-  pub motive_end : (count : ℕ) (sort : Sort) (top : Node) → ((n : List ℕ) (a b : Tree) → top ≡ node.Prod n a b → ⊥) → IsMotive m i.decl →
-      motive_type_at env i count sort (tree_of top) ≡ motive_end_at i m count sort
-  motive_end count sort (node.Prod n a b) apart is = absurd (apart n a b refl)
-  motive_end count sort (node.Var x) apart is = motive_by count sort is
-  motive_end count sort (node.Sorted x) apart is = motive_by count sort is
-  motive_end count sort (node.Constant x) apart is = motive_by count sort is
-  motive_end count sort (node.Lam n a b) apart is = motive_by count sort is
-  motive_end count sort (node.LetIn n a t b) apart is = motive_by count sort is
-  motive_end count sort (node.App f a) apart is = motive_by count sort is

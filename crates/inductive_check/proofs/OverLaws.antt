@@ -18,9 +18,6 @@ size_over t n a b e = let s : size_of t ≡ 1 + size_of a + size_of b = ap size_
 pub depth_over : (t : Tree) (n : List ℕ) (a b : Tree) (k : ℕ) → t ≡ Prod n a b → k + 2 * depth_of t < 2 ^ 31 → k + 2 * depth_of b + 2 < 2 ^ 31
 depth_over t n a b k e room = let d : depth_of t ≡ 1 + max (depth_of a) (depth_of b) = ap depth_of e in omega (arith, d, room)
 
-pub depth_first : (t : Tree) (n : List ℕ) (a b : Tree) (k : ℕ) → t ≡ Prod n a b → k + 2 * depth_of t < 2 ^ 31 → k + 2 * depth_of a + 2 < 2 ^ 31
-depth_first t n a b k e room = let d : depth_of t ≡ 1 + max (depth_of a) (depth_of b) = ap depth_of e in omega (arith, d, room)
-
 pub free_first : (s : Site) (t : Tree) (n : List ℕ) (a b : Tree) → t ≡ Prod n a b → MayPlace s t → MayPlace s a
 free_first s t n a b e may =
     let f : free_bound t ≡ max (free_bound a) (free_bound b - 1) = ap free_bound e in

@@ -19,9 +19,6 @@ domain_large n a b large = grind (arith, nat_tests)
 rest_large : (n : List ℕ) (a b : Tree) → is_small b ≡ false → is_small (Prod n a b) ≡ false
 rest_large n a b large = grind (arith, nat_tests)
 
-function_large : (f a : Tree) → is_small f ≡ false → is_small (App f a) ≡ false
-function_large f a large = grind (arith, nat_tests)
-
 argument_large : (f a : Tree) → is_small a ≡ false → is_small (App f a) ≡ false
 argument_large f a large = grind (arith, nat_tests)
 
@@ -31,12 +28,6 @@ domain_stop stop n a b gives = stopped stop a (Prod n a b) (domain_large n a b) 
 
 pub rest_stop : (stop : TermStop) (n : List ℕ) (a b : Tree) → Gives {A = Tree} (Err stop) (within_limits b) → Gives {A = Tree} (Err stop) (within_limits (Prod n a b))
 rest_stop stop n a b gives = stopped stop b (Prod n a b) (rest_large n a b) gives
-
-pub function_stop : (stop : TermStop) (f a : Tree) → Gives {A = Tree} (Err stop) (within_limits f) → Gives {A = Tree} (Err stop) (within_limits (App f a))
-function_stop stop f a gives = stopped stop f (App f a) (function_large f a) gives
-
-pub argument_stop : (stop : TermStop) (f a : Tree) → Gives {A = Tree} (Err stop) (within_limits a) → Gives {A = Tree} (Err stop) (within_limits (App f a))
-argument_stop stop f a gives = stopped stop a (App f a) (argument_large f a) gives
 
 -- nor what is applied to more
 pub applied_stop : (stop : TermStop) (f : Tree) (args : List Tree) → Gives {A = Tree} (Err stop) (within_limits f) →

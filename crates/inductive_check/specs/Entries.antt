@@ -74,3 +74,6 @@ sort_entry env i s =
 -- those of its constructors and its eliminators
 abbrev pub member_entries : List Slot → CheckedInductive → List Entry
 member_entries env i = ctor_entries (length env) i.decl 0 i.decl.ctors ++ eliminator_entries (with_type env i) (length env) i.decl i.sorts
+
+abbrev pub sort_entries : List Slot → CheckedInductive → List Sort → List Entry
+sort_entries env i sorts = eliminator_entries (with_type env i) i.place i.decl sorts

@@ -1,6 +1,8 @@
 -- Where the terms of a declaration are put, by the levels of binders.
-use Rattle.std.specs.Prelude.{ℕ, zero, suc, ◌-◌, ◌^◌, ◌≤◌, List, [], ◌∷◌, length}
+use Rattle.std.specs.Prelude.{ℕ, zero, suc, ◌-◌, ◌^◌, ◌≤◌, List, [], ◌∷◌, length, Result}
 use Rattle.core_term.specs.Tree.{Tree, Var, free_bound}
+use Rattle.core_term.specs.Answers.{within_limits, Gives}
+use Rattle.core_term.specs.declared.stops.TermStop.{TermStop}
 use Rattle.cic_rules.specs.declared.decls.Ctor.{Ctor}
 use Rattle.cic_rules.specs.Scopes.{AreBefore}
 use Rattle.inductive_check.specs.declared.levels.Site.{Site}
@@ -36,3 +38,15 @@ AreCtorsPlaced s (c ∷ cs) = (free_bound c.ty ≤ length s.levels) × AreCtorsP
 abbrev pub levels_of : ℕ → List ℕ
 levels_of zero = []
 levels_of (suc n) = n ∷ levels_of n
+
+-- a call makes this term, out of size exactly where it is too large
+abbrev pub Makes : Result Tree TermStop → Tree → Type 0
+Makes made t = Gives made (within_limits t)
+
+-- the variables that the variables of a site's context mean
+abbrev pub site_values : Site → List Tree
+site_values s = values_at s.depth s.levels
+
+-- the levels with that of the next binder
+abbrev pub next_levels : Site → List ℕ
+next_levels s = s.depth ∷ s.levels

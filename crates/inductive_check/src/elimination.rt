@@ -2,10 +2,9 @@
 ghost use Rattle.std.specs.Prelude.{◌≡◌, ◌+◌, ◌-◌, ◌*◌, ◌^◌, ◌<◌, ◌≤◌, length};
 ghost use Rattle.core_term.specs.Tree.{Prod, depth_of, free_bound};
 ghost use Rattle.core_term.specs.Sorts.{IsSort};
-ghost use Rattle.core_term.specs.Answers.{within_limits, Gives};
 ghost use Rattle.inductive_check.specs.Labels.{with_type};
-ghost use Rattle.inductive_check.specs.Levels.{IsSite, MayPlace, AreCtorsPlaced};
-ghost use Rattle.inductive_check.specs.Elimination.{IsMotive, motive_at, motive_type_at, motive_end_at, at_indices, hypothesis_at, hypothesis_end_at, hypothesis_over_at, conclusion_at, conclusion_over_at, conclusion_end_at, case_at, case_end_at, plain_case_at, recursive_case_at, cases_at};
+ghost use Rattle.inductive_check.specs.Levels.{Makes, IsSite, MayPlace, AreCtorsPlaced};
+ghost use Rattle.inductive_check.specs.Elimination.{IsMotive, motive_at, motive_type_at, motive_end_at, at_indices, hypothesis_at, hypothesis_end_at, hypothesis_over_at, conclusion_at, conclusion_over_at, conclusion_end_at, case_at, case_end_at, plain_case_at as plain_at, recursive_case_at as recursion_at, cases_at};
 
 use crate::forms::mentions;
 use crate::labels::{argument_name, case_name, hypothesis_name, value_name};
@@ -28,7 +27,7 @@ pub(crate) struct Motive {
 
 /// The motive's variable below the binders of a site.
 fn motive_variable(alloc: Global, m: Motive, site: &Site) -> Result<Term, TermStop>
-    ensures { Gives result (within_limits (motive_at m site.now)) }
+    ensures { Makes result (motive_at m site.now) }
 {
     level_variable(alloc, site, m.level)
 }
@@ -47,7 +46,7 @@ pub(crate) fn motive_type(
     requires motive { IsMotive m i.now.decl }
     requires sort { IsSort sort }
     requires room { count + depth_of arity.now ≤ 2 ^ 31 }
-    ensures { Gives result (within_limits (motive_type_at (with_type env.now i.now) i.now count sort arity.now)) }
+    ensures { Makes result (motive_type_at (with_type env.now i.now) i.now count sort arity.now) }
 {
     match arity.node() {
         Node::Prod {
@@ -76,7 +75,7 @@ fn motive_end(
     requires motive { IsMotive m i.now.decl }
     requires sort { IsSort sort }
     requires room { count ≤ 2 ^ 31 }
-    ensures { Gives result (within_limits (motive_end_at i.now m count sort)) }
+    ensures { Makes result (motive_end_at i.now m count sort) }
 {
     if m.is_prop {
         return Term::sort(alloc, sort);
@@ -105,7 +104,7 @@ fn hypothesis(
     requires place { MayPlace site.now ty.now }
     requires below { m.level < site.now.depth }
     requires room { site.now.depth + own + 2 * depth_of ty.now < 2 ^ 31 }
-    ensures { Gives result (within_limits (hypothesis_at (with_type env.now i.now) i.now m site.now own ty.now)) }
+    ensures { Makes result (hypothesis_at (with_type env.now i.now) i.now m site.now own ty.now) }
 {
     match ty.node() {
         Node::Prod {
@@ -136,7 +135,7 @@ fn hypothesis_over(
     requires rest { free_bound b.now ≤ length site.now.levels + 1 }
     requires below { m.level < site.now.depth }
     requires room { site.now.depth + own + 2 * depth_of b.now + 2 < 2 ^ 31 }
-    ensures { Gives result (within_limits (hypothesis_over_at (with_type env.now i.now) i.now m site.now own name.now a.now b.now)) }
+    ensures { Makes result (hypothesis_over_at (with_type env.now i.now) i.now m site.now own name.now a.now b.now) }
 {
     let name = name.share()?;
     let inner = site.with_variable(alloc)?;
@@ -161,7 +160,7 @@ fn hypothesis_end(
     requires motive { IsMotive m i.now.decl }
     requires place { MayPlace site.now ty.now }
     requires room { own ≤ 2 ^ 31 }
-    ensures { Gives result (within_limits (hypothesis_end_at i.now m site.now own ty.now)) }
+    ensures { Makes result (hypothesis_end_at i.now m site.now own ty.now) }
 {
     let function = motive_variable(alloc, m, site)?;
     match applied_to_indices(alloc, function, m.level as usize, ty, site) {
@@ -194,7 +193,7 @@ fn conclusion(
     requires place { MayPlace site.now arity.now }
     requires below { m.level < site.now.depth }
     requires room { site.now.depth + own + 2 * depth_of arity.now < 2 ^ 31 }
-    ensures { Gives result (within_limits (conclusion_at (with_type env.now i.now) i.now m site.now own arity.now)) }
+    ensures { Makes result (conclusion_at (with_type env.now i.now) i.now m site.now own arity.now) }
 {
     match arity.node() {
         Node::Prod {
@@ -225,7 +224,7 @@ fn conclusion_over(
     requires rest { free_bound b.now ≤ length site.now.levels + 1 }
     requires below { m.level < site.now.depth }
     requires room { site.now.depth + own + 2 * depth_of b.now + 2 < 2 ^ 31 }
-    ensures { Gives result (within_limits (conclusion_over_at (with_type env.now i.now) i.now m site.now own name.now a.now b.now)) }
+    ensures { Makes result (conclusion_over_at (with_type env.now i.now) i.now m site.now own name.now a.now b.now) }
 {
     let name = name.share()?;
     let inner = site.with_variable(alloc)?;
@@ -250,7 +249,7 @@ fn conclusion_end(
     requires place { IsSite site.now }
     requires below { m.level < site.now.depth }
     requires room { site.now.depth + own < 2 ^ 31 }
-    ensures { Gives result (within_limits (conclusion_end_at i.now m site.now own)) }
+    ensures { Makes result (conclusion_end_at i.now m site.now own) }
 {
     let name = value_name(alloc, &i.decl)?;
     let family = Term::constant(alloc, i.place)?;
@@ -269,7 +268,7 @@ fn conclusion_end(
 /// that.
 fn motive_at_indices(alloc: Global, m: Motive, function: Term, count: u32) -> Result<Term, TermStop>
     requires { count < 2 ^ 32 - 1 }
-    ensures { Gives result (within_limits (at_indices m function count)) }
+    ensures { Makes result (at_indices m function count) }
 {
     if m.is_prop {
         applied_to_row(alloc, function, 1, count)
@@ -295,7 +294,7 @@ fn case_type(
     requires place { MayPlace site.now ty.now }
     requires below { m.level < site.now.depth }
     requires room { site.now.depth + 2 * depth_of ty.now < 2 ^ 31 }
-    ensures { Gives result (within_limits (case_at (with_type env.now i.now) i.now m ctor site.now names.now ty.now)) }
+    ensures { Makes result (case_at (with_type env.now i.now) i.now m ctor site.now names.now ty.now) }
 {
     match ty.node() {
         Node::Prod {
@@ -334,7 +333,7 @@ fn plain_case(
     requires rest { free_bound b.now ≤ length site.now.levels + 1 }
     requires below { m.level < site.now.depth }
     requires room { site.now.depth + 2 * depth_of b.now + 2 < 2 ^ 31 }
-    ensures { Gives result (within_limits (plain_case_at (with_type env.now i.now) i.now m ctor site.now names.now name a.now b.now)) }
+    ensures { Makes result (plain_at (with_type env.now i.now) i.now m ctor site.now names.now name a.now b.now) }
 {
     let inner = site.with_variable(alloc)?;
     let within = names.with(alloc, &name)?;
@@ -368,7 +367,7 @@ fn recursive_case(
     requires below { m.level < site.now.depth }
     requires room { site.now.depth + 2 * depth_of b.now + 2 < 2 ^ 31 }
     requires own { site.now.depth + 2 * depth_of a.now + 2 < 2 ^ 31 }
-    ensures { Gives result (within_limits (recursive_case_at (with_type env.now i.now) i.now m ctor site.now names.now name a.now b.now)) }
+    ensures { Makes result (recursion_at (with_type env.now i.now) i.now m ctor site.now names.now name a.now b.now) }
 {
     let label = hypothesis_name(alloc, &name)?;
     let under = site.with_binder()?;
@@ -396,7 +395,7 @@ fn two_products(
     says: Term,
     rest: Term,
 ) -> Result<Term, TermStop>
-    ensures { Gives result (within_limits (Prod name domain (Prod label says rest))) }
+    ensures { Makes result (Prod name domain (Prod label says rest)) }
 {
     match Term::prod(alloc, label, says, rest) {
         Ok(rest) => Term::prod(alloc, name, domain, rest),
@@ -415,7 +414,7 @@ fn case_end(
 ) -> Result<Term, TermStop>
     requires motive { IsMotive m i.now.decl }
     requires place { MayPlace site.now ty.now }
-    ensures { Gives result (within_limits (case_end_at i.now m ctor site.now ty.now)) }
+    ensures { Makes result (case_end_at i.now m ctor site.now ty.now) }
 {
     let function = motive_variable(alloc, m, site)?;
     match applied_to_indices(alloc, function, m.level as usize, ty, site) {
@@ -451,7 +450,7 @@ pub(crate) fn cases(
     requires below { m.level < site.now.depth }
     requires room { site.now.depth + length ctors.now + 4000 ≤ 2 ^ 31 }
     requires count { i.now.place + index + length ctors.now < 2 ^ 32 }
-    ensures { Gives result (within_limits (cases_at (with_type env.now i.now) i.now m index site.now names.now ctors.now)) }
+    ensures { Makes result (cases_at (with_type env.now i.now) i.now m index site.now names.now ctors.now) }
 {
     match ctors {
         [] => {

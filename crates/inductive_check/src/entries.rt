@@ -1,17 +1,16 @@
 //! The entries of an inductive type that passed its test.
 ghost use Rattle.std.specs.Prelude.{◌≡◌, ◌+◌, ◌≤◌, ◌<◌, [], ◌∷◌, length, IfOk, OnOk};
 ghost use Rattle.base_core.specs.Answers.{Gives};
-ghost use Rattle.core_term.specs.Answers.{within_limits, Gives as Makes};
 ghost use Rattle.core_term.specs.Sorts.{IsSort};
 ghost use Rattle.cic_rules.specs.Judges.{IsNeverRefused};
 ghost use Rattle.cic_rules.specs.Declare.{eliminators as entries_of, IsChecked};
 ghost use Rattle.cic_rules.specs.Environments.{IsEnvironment};
-ghost use Rattle.cic_rules.specs.Eliminators.{hyp_names, type_of_ctor as ctor_type, eliminator_type as type_into, type_entry, ctor_entries, eliminator_entries, family_entries};
+ghost use Rattle.cic_rules.specs.Eliminators.{hyp_names, type_of_ctor as ctor_type, eliminator_type as type_into, type_entry, ctor_entries, family_entries};
 ghost use Rattle.inductive_check.specs.Steps.{sized};
 ghost use Rattle.inductive_check.specs.Labels.{with_type};
-ghost use Rattle.inductive_check.specs.Levels.{levels_of as top_levels};
+ghost use Rattle.inductive_check.specs.Levels.{levels_of as top_levels, Makes};
 ghost use Rattle.inductive_check.specs.Elimination.{IsMotive};
-ghost use Rattle.inductive_check.specs.Entries.{Adds, AreSorts, MayEliminate, HasFew, top_site as the_top_site, member_entries, behind_params_at, ctor_entry, sort_entry};
+ghost use Rattle.inductive_check.specs.Entries.{Adds, AreSorts, MayEliminate, HasFew, top_site as the_top_site, member_entries, behind_params_at, ctor_entry, sort_entry, sort_entries};
 
 use crate::elimination::{Motive, cases, motive_type};
 use crate::families::type_of_decl;
@@ -191,7 +190,7 @@ fn add_eliminators(
     requires few { HasFew i.now.decl }
     requires motive { IsMotive m i.now.decl }
     requires sorts { AreSorts sorts.now }
-    ensures { Adds result list.new list.old (eliminator_entries (with_type env.now i.now) i.now.place i.now.decl sorts.now) }
+    ensures { Adds result list.new list.old (sort_entries env.now i.now sorts.now) }
 {
     match sorts {
         [] => Ok(()),
@@ -252,7 +251,7 @@ fn eliminator_type(
     requires few { HasFew i.now.decl }
     requires motive { IsMotive m i.now.decl }
     requires sort { IsSort sort }
-    ensures { Makes result (within_limits (type_into (with_type env.now i.now) i.now.place i.now.decl sort)) }
+    ensures { Makes result (type_into (with_type env.now i.now) i.now.place i.now.decl sort) }
 {
     match behind_params(alloc, env, i, m, sort) {
         Ok(end) => products_over(alloc, i.decl.params.as_slice(), end),
@@ -273,7 +272,7 @@ fn behind_params(
     requires few { HasFew i.now.decl }
     requires motive { IsMotive m i.now.decl }
     requires sort { IsSort sort }
-    ensures { Makes result (within_limits (behind_params_at (with_type env.now i.now) i.now m sort)) }
+    ensures { Makes result (behind_params_at (with_type env.now i.now) i.now m sort) }
 {
     let name = Text::copy(alloc, "P")?;
     let site = top_site(alloc, m.level)?;

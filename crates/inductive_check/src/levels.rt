@@ -2,12 +2,11 @@
 //! term means one of these binders, which is kept by its level: how many binders stand above it.
 ghost use Rattle.std.specs.Prelude.{◌≡◌, ◌+◌, ◌-◌, ◌^◌, ◌<◌, ◌≤◌, ◌∷◌, [], length, take, drop, IfOk};
 ghost use Rattle.core_term.specs.Tree.{Tree, Var, IsNumbered, depth_of, free_bound};
-ghost use Rattle.core_term.specs.Answers.{within_limits, Gives};
 ghost use Rattle.term_spine.specs.Spine.{apply_all, arguments_of};
 ghost use Rattle.term_spine.specs.Instantiate.{instantiate, instantiate_all, instantiate_under};
 ghost use Rattle.cic_rules.specs.Families.{newest_first, indices};
 ghost use Rattle.inductive_check.specs.Forms.{params_under};
-ghost use Rattle.inductive_check.specs.Levels.{variable_at, values_at, IsSite, MayPlace, MayPlaceAll};
+ghost use Rattle.inductive_check.specs.Levels.{variable_at, site_values, next_levels, Makes, IsSite, MayPlace, MayPlaceAll};
 
 use crate::forms::spine;
 use base_core::NoMem;
@@ -28,7 +27,7 @@ impl Site {
     /// Below a further binder, which a new variable means.
     pub(crate) fn with_variable(&self, alloc: Global) -> Result<Site, NoMem>
         requires { self.now.depth < 2 ^ 31 }
-        ensures { IfOk result (λ s. s ≡ record { levels = self.now.depth ∷ self.now.levels; depth = self.now.depth + 1 }) }
+        ensures { IfOk result (λ s. s ≡ record { levels = next_levels self.now; depth = self.now.depth + 1 }) }
     {
         let levels = self.levels.with_first(alloc, self.depth)?;
         Ok(Site {
@@ -54,7 +53,7 @@ impl Site {
 #[tactic(auto, using(crate::proofs::LevelLaws::placed_numbered))]
 pub(crate) fn placed(alloc: Global, t: &Term, site: &Site) -> Result<Term, TermStop>
     requires { MayPlace site.now t.now }
-    ensures { Gives result (within_limits (instantiate (values_at site.now.depth site.now.levels) t.now)) }
+    ensures { Makes result (instantiate (site_values site.now) t.now) }
 {
     let _depth = t.depth();
     placed_under(alloc, t, site, 0)
@@ -65,8 +64,8 @@ pub(crate) fn placed(alloc: Global, t: &Term, site: &Site) -> Result<Term, TermS
 #[tactic(auto, using(term_spine::proofs::Instantiations::limits_above))]
 fn placed_under(alloc: Global, t: &Term, site: &Site, binders: u32) -> Result<Term, TermStop>
     requires room { binders + depth_of t.now < 2 ^ 32 }
-    requires numbered { IsNumbered (instantiate_under (values_at site.now.depth site.now.levels) t.now binders) }
-    ensures { Gives result (within_limits (instantiate_under (values_at site.now.depth site.now.levels) t.now binders)) }
+    requires numbered { IsNumbered (instantiate_under (site_values site.now) t.now binders) }
+    ensures { Makes result (instantiate_under (site_values site.now) t.now binders) }
 {
     if u64::from(binders) >= t.free_bound() {
         return Ok(t.share()?);
@@ -112,8 +111,8 @@ fn placed_under(alloc: Global, t: &Term, site: &Site, binders: u32) -> Result<Te
 #[tactic(auto, using(crate::proofs::LevelLaws::variable_found, crate::proofs::LevelLaws::variable_none))]
 fn placed_variable(site: &Site, i: u32, binders: u32) -> u32
     requires within { binders ≤ i }
-    requires numbered { IsNumbered (instantiate_under (values_at site.now.depth site.now.levels) (Var i) binders) }
-    ensures { Var result ≡ instantiate_under (values_at site.now.depth site.now.levels) (Var i) binders }
+    requires numbered { IsNumbered (instantiate_under (site_values site.now) (Var i) binders) }
+    ensures { Var result ≡ instantiate_under (site_values site.now) (Var i) binders }
 {
     match site.levels.get((i - binders) as usize) {
         Some(level) => site.depth.saturating_sub(1).saturating_sub(*level) + binders,
@@ -123,7 +122,7 @@ fn placed_variable(site: &Site, i: u32, binders: u32) -> u32
 
 /// The variable of the binder at a level.
 pub(crate) fn level_variable(alloc: Global, site: &Site, level: u32) -> Result<Term, TermStop>
-    ensures { Gives result (within_limits (variable_at site.now.depth level)) }
+    ensures { Makes result (variable_at site.now.depth level) }
 {
     Term::var(alloc, site.depth.saturating_sub(1).saturating_sub(level))
 }
@@ -131,7 +130,7 @@ pub(crate) fn level_variable(alloc: Global, site: &Site, level: u32) -> Result<T
 /// A term that was made passes no limit.
 #[tactic(auto, using(crate::proofs::SizeLaws::term_is_within))]
 pub(crate) fn within(t: Term) -> Result<Term, TermStop>
-    ensures { Gives result (within_limits t) }
+    ensures { Makes result t }
 {
     let _depth = t.depth();
     Ok(t)
@@ -145,7 +144,7 @@ pub(crate) fn applied_to_row(
     count: u32,
 ) -> Result<Term, TermStop>
     requires { offset + count < 2 ^ 32 }
-    ensures { Gives result (within_limits (apply_all function (params_under offset count))) }
+    ensures { Makes result (apply_all function (params_under offset count)) }
 {
     if count == 0 {
         return within(function);
@@ -164,7 +163,7 @@ pub(crate) fn applied_to_context(
     site: &Site,
 ) -> Result<Term, TermStop>
     requires { IsSite site.now }
-    ensures { Gives result (within_limits (apply_all function (newest_first (values_at site.now.depth site.now.levels) []))) }
+    ensures { Makes result (apply_all function (newest_first (site_values site.now) [])) }
 {
     applied_from(alloc, function, site, site.levels.len())
 }
@@ -173,7 +172,7 @@ pub(crate) fn applied_to_context(
 fn applied_from(alloc: Global, function: Term, site: &Site, at: usize) -> Result<Term, TermStop>
     requires site { IsSite site.now }
     requires within { at ≤ length site.now.levels }
-    ensures { Gives result (within_limits (apply_all function (newest_first (take at (values_at site.now.depth site.now.levels)) []))) }
+    ensures { Makes result (apply_all function (newest_first (take at (site_values site.now)) [])) }
 {
     if at == 0 {
         return within(function);
@@ -197,7 +196,7 @@ pub(crate) fn applied_to_indices(
     site: &Site,
 ) -> Result<Term, TermStop>
     requires { MayPlace site.now t.now }
-    ensures { Gives result (within_limits (apply_all function (instantiate_all (values_at site.now.depth site.now.levels) (indices params t.now)))) }
+    ensures { Makes result (apply_all function (instantiate_all (site_values site.now) (indices params t.now))) }
 {
     let s = spine(alloc, t)?;
     let args = skipped(&s.args, params)?;
@@ -225,7 +224,7 @@ fn applied_to_all(
     site: &Site,
 ) -> Result<Term, TermStop>
     requires { MayPlaceAll site.now args.now }
-    ensures { Gives result (within_limits (apply_all function (instantiate_all (values_at site.now.depth site.now.levels) args.now))) }
+    ensures { Makes result (apply_all function (instantiate_all (site_values site.now) args.now)) }
 {
     match args.split()? {
         None => within(function),
