@@ -42,7 +42,12 @@ const TABLE: [Row; 17] = [
     ("aa>0b@!", Ok("aa>a>"), 9, &[0, 1]),
 ];
 
-fn assumed(alloc: Global, env: &GlobalEnv, name: &str, ty: &str) -> Result<GlobalEnv, Fail> {
+pub(crate) fn assumed(
+    alloc: Global,
+    env: &GlobalEnv,
+    name: &str,
+    ty: &str,
+) -> Result<GlobalEnv, Fail> {
     let decl = Decl::Assume {
         name: Text::copy(alloc, name)?,
         ty: term(alloc, ty)?,
