@@ -4,3 +4,10 @@ pub mod RowLaws
 pub mod OpenLaws
 pub mod PartLaws
 pub mod BehindLaws
+pub mod LabelLaws
+pub mod LevelLaws
+pub mod SizeLaws
+pub mod CaseLaws
+pub mod EntryLaws
+pub mod TopLaws
+pub mod OverLaws

@@ -2,3 +2,7 @@ pub mod Names
 pub mod Forms
 pub mod Rows
 pub mod Steps
+pub mod Labels
+pub mod Levels
+pub mod Elimination
+pub mod Entries

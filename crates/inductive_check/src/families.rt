@@ -163,7 +163,7 @@ fn check_behind<J: Judge>(
 }
 
 /// The type of an inductive type.
-fn type_of_decl(alloc: Global, d: &InductiveDecl) -> Result<Term, Stop>
+pub(crate) fn type_of_decl(alloc: Global, d: &InductiveDecl) -> Result<Term, Stop>
     ensures { Gives result (sized (type_of d.now)) }
 {
     let arity = d.arity.share()?;

@@ -3,11 +3,14 @@
 #![tactic(auto)]
 
 mod elimination;
+mod entries;
 mod families;
 mod forms;
+mod labels;
+mod levels;
 mod names;
 mod parts;
 mod sorts;
 
-pub use elimination::eliminators;
+pub use entries::eliminators;
 pub use families::check_inductive;

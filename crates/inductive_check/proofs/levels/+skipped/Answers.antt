@@ -1,0 +1,10 @@
+use Rattle.std.proofs.Common.{◌≡◌, ◌∷◌, ◌<◌, sym, subst, arith}
+use Rattle.std.specs.Prelude.{IfOk}
+use Rattle.inductive_check.proofs.LevelLaws.{drop_next}
+use Rattle.inductive_check.proofs.levels.+skipped.Goals as goal
+
+pub returns : goal.returns
+returns t c =
+    let split : c.args.args.now ≡ c.in-Some.field-0-0 ∷ c.in-Some.rest = rw c.in-Some.is at c.in_ok-split.ensures in
+    let more : 0 < c.args.count = grind arith in
+    subst (λ u. IfOk c.skipped.result (λ rest. rest ≡ u)) (sym (drop_next c.args.count c.args.args.now c.in-Some.field-0-0 c.in-Some.rest split more)) c.skipped.ensures
