@@ -1,6 +1,6 @@
 -- The parts of an eliminator's type where they stand.
-use Rattle.std.specs.Prelude.{◌≡◌, ℕ, zero, suc, ◌+◌, ◌-◌, ◌<◌, List, [], ◌∷◌, length, Bool, true, false, if◌then◌else◌, refl}
-use Rattle.std.proofs.Common.{arith, ap, sym, ◌∙◌, subst}
+use Rattle.std.specs.Prelude.{◌≡◌, ℕ, suc, ◌+◌, ◌-◌, ◌<◌, List, [], ◌∷◌, Bool, true, false, if◌then◌else◌, refl}
+use Rattle.std.proofs.Common.{arith, ap, sym, ◌∙◌}
 use Rattle.core_term.specs.declared.sorts.Sort.{Sort}
 use Rattle.core_term.specs.Tree.{Tree, Var, Sorted, Constant, Prod, App}
 use Rattle.core_term.specs.declared.terms.Node.{Node}
@@ -10,17 +10,15 @@ use Rattle.term_spine.specs.Globals.{mentions}
 use Rattle.term_spine.specs.Instantiate.{instantiate, instantiate_all, values_under}
 use Rattle.term_spine.specs.Spine.{apply_all, shift, shift_all, eta_body}
 use Rattle.cic_rules.specs.declared.decls.Ctor.{Ctor}
-use Rattle.cic_rules.specs.declared.decls.InductiveDecl.{InductiveDecl}
 use Rattle.cic_rules.specs.declared.env.Slot.{Slot}
 use Rattle.cic_rules.specs.declared.families.CheckedInductive.{CheckedInductive}
 use Rattle.cic_rules.specs.Families.{count_params, indices, newest_first}
 use Rattle.cic_rules.specs.Scopes.{AreBefore}
-use Rattle.cic_rules.specs.Eliminators.{is_in_prop, Scope, with_argument, with_binder as with_other, argument_name, hypothesis_name, case_name, value_name, hypothesis, case_argument, case_type, conclusion, motive_type, cases}
+use Rattle.cic_rules.specs.Eliminators.{is_in_prop, with_argument, with_binder as with_other, argument_name, hypothesis_name, case_name, value_name, hypothesis, case_argument, case_type, conclusion, motive_type, cases}
 use Rattle.inductive_check.specs.declared.elimination.Motive.{Motive}
 use Rattle.inductive_check.specs.declared.levels.Site.{Site}
 use Rattle.inductive_check.specs.Forms.{params_under}
-use Rattle.inductive_check.specs.Levels.{variable_at, values_at, IsSite}
-use Rattle.inductive_check.specs.Elimination.{IsMotive, own_row, values_of, with_variable, with_binder, motive_at, value_if, motive_applied, hypothesis_end_at, case_end_at, at_indices, conclusion_end_at, motive_end_at, motive_type_at, hypothesis_at, conclusion_at, scope_at, case_at, plain_case_at, recursive_case_at, cases_at}
+use Rattle.inductive_check.specs.Elimination.{IsMotive, own_row, values_of, with_variable, with_binder, motive_at, motive_applied, hypothesis_end_at, case_end_at, conclusion_end_at, motive_end_at, motive_type_at, hypothesis_at, conclusion_at, scope_at, case_at, plain_case_at, recursive_case_at, cases_at}
 use Rattle.inductive_check.proofs.FormLaws.{shift_var}
 use Rattle.inductive_check.proofs.LevelLaws.{values_shift, values_more, row_eta, row_shift, built_shift, built_more}
 

@@ -1,5 +1,5 @@
 -- The entries of an inductive type, one after another.
-use Rattle.std.specs.Prelude.{◌≡◌, ℕ, zero, suc, ◌+◌, ◌-◌, ◌≤◌, ◌<◌, ◌&&◌, List, [], ◌∷◌, ◌++◌, length, drop, Bool, true, false, Result, Ok, Err, OnOk, if◌then◌else◌, refl}
+use Rattle.std.specs.Prelude.{◌≡◌, ℕ, suc, ◌≤◌, ◌<◌, ◌&&◌, List, [], ◌∷◌, ◌++◌, length, Bool, true, false, Result, Ok, Err, OnOk, if◌then◌else◌, refl}
 use Rattle.std.proofs.Common.{arith, ap, sym, ◌∙◌, subst, append_assoc}
 use Rattle.std.proofs.lemmas.Bool.Decides.{nat_tests}
 use Rattle.base_core.specs.declared.refusals.Stop.{Stop}
@@ -119,9 +119,11 @@ given_all u env c new adds =
 pub given_none : (stop : Stop) (env : List Slot) (c : CheckedInductive) (new : List Entry) →
     Adds (Err stop) new [] (family_entries env c.decl c.used c.sorts) → Gives {A = List Entry} (Err stop) (eliminators env c) × IsNeverRefused {A = List Entry} (Err stop)
 given_none (Refused r) env c new adds = absurd adds
-given_none (Out l) env c new adds =
-    (ap out adds.0
-    ∙ ap (chosen (family_entries env c.decl c.used c.sorts)) (sym adds.1), tt)
+given_none (Out l) env c new adds = (
+  ap out adds.0
+      ∙ ap (chosen (family_entries env c.decl c.used c.sorts)) (sym adds.1),
+  tt,
+)
 given_none NoMem env c new adds = (tt, tt)
 
 -- a type with too many constructors has an eliminator whose type is too large

@@ -1,8 +1,8 @@
 -- Values that are the variables of binders.
-use Rattle.std.specs.Prelude.{◌≡◌, ℕ, zero, suc, ◌+◌, ◌-◌, ◌^◌, ◌<◌, ◌≤◌, nat_le, nat_lt, List, [], ◌∷◌, ◌++◌, length, take, drop, Bool, true, false, Option, Some, None, slice_get, Result, Ok, Err, if◌then◌else◌, refl}
+use Rattle.std.specs.Prelude.{◌≡◌, ℕ, zero, suc, ◌+◌, ◌-◌, ◌<◌, ◌≤◌, nat_le, nat_lt, List, [], ◌∷◌, ◌++◌, length, take, drop, true, false, Some, None, slice_get, Result, Ok, Err, if◌then◌else◌, refl}
 use Rattle.std.proofs.Common.{arith, ap, sym, ◌∙◌, subst}
 use Rattle.std.proofs.lemmas.Bool.Decides.{nat_tests}
-use Rattle.core_term.specs.Tree.{Tree, Var, Sorted, Constant, Prod, Lam, LetIn, App, IsTerm, IsNumbered, free_bound, depth_of}
+use Rattle.core_term.specs.Tree.{Tree, Var, Sorted, Constant, Prod, Lam, LetIn, App, IsTerm, IsNumbered}
 use Rattle.core_term.specs.Places.{lift_of}
 use Rattle.core_term.specs.Answers.{within_limits, Gives}
 use Rattle.core_term.specs.declared.stops.TermStop.{TermStop}
@@ -10,13 +10,13 @@ use Rattle.inductive_check.proofs.PartLaws.{same_term}
 use Rattle.inductive_check.proofs.SizeLaws.{applied_stop}
 use Rattle.term_spine.specs.SpineLaws.{AreOver, AreShallow}
 use Rattle.term_spine.specs.Spine.{apply_all, arguments_of, shift, shift_all, eta_body, variables_of}
-use Rattle.term_spine.specs.Instantiate.{instantiated_variable, instantiate, instantiate_under, values_under}
+use Rattle.term_spine.specs.Instantiate.{instantiated_variable, instantiate_under, values_under}
 use Rattle.term_spine.proofs.Instantiations.{instantiate_numbered}
 use Rattle.cic_rules.specs.Families.{newest_first, indices}
 use Rattle.cic_rules.specs.Scopes.{AreBefore}
 use Rattle.inductive_check.specs.declared.levels.Site.{Site}
 use Rattle.inductive_check.specs.Forms.{params_under}
-use Rattle.inductive_check.specs.Levels.{variable_at, values_at, IsSite, MayPlace, MayPlaceAll, levels_of}
+use Rattle.inductive_check.specs.Levels.{variable_at, values_at, MayPlace, MayPlaceAll, levels_of}
 use Rattle.inductive_check.proofs.FormLaws.{shift_var, params_shift, params_top}
 
 pub values_length : (depth : ℕ) (ls : List ℕ) → length (values_at depth ls) ≡ length ls

@@ -1,6 +1,6 @@
 -- Parts that are too large.
-use Rattle.std.specs.Prelude.{◌≡◌, ℕ, ◌+◌, ◌≤◌, List, [], ◌∷◌, Bool, true, false, Result, Ok, Err, refl}
-use Rattle.std.proofs.Common.{arith, ap, sym, ◌∙◌, subst}
+use Rattle.std.specs.Prelude.{◌≡◌, ℕ, List, false, Ok, Err}
+use Rattle.std.proofs.Common.{arith, sym}
 use Rattle.std.proofs.lemmas.Bool.Decides.{nat_tests}
 use Rattle.core_term.specs.Tree.{Tree, Prod, App, IsTerm, is_small}
 use Rattle.core_term.specs.Answers.{within_limits, Gives}

@@ -1,5 +1,5 @@
 -- What the entries of a checked inductive type are built of.
-use Rattle.std.specs.Prelude.{◌≡◌, ℕ, zero, suc, ◌+◌, ◌-◌, ◌^◌, ◌≤◌, ◌<◌, List, [], ◌∷◌, ◌++◌, length, Bool, true, false, Option, Result, Ok, Err, if◌then◌else◌, refl}
+use Rattle.std.specs.Prelude.{◌≡◌, ℕ, zero, suc, ◌+◌, ◌-◌, ◌≤◌, ◌<◌, List, [], ◌∷◌, length, Bool, true, false, Err, if◌then◌else◌, refl}
 use Rattle.std.proofs.Common.{arith, ap, sym, ◌∙◌, subst}
 use Rattle.core_term.specs.declared.sorts.Sort.{Sort}
 use Rattle.core_term.specs.declared.sorts.Sort.TheVariants.{PropSort, SetSort, TypeSort}
@@ -15,10 +15,10 @@ use Rattle.cic_rules.specs.declared.families.CheckedInductive.{CheckedInductive}
 use Rattle.cic_rules.specs.Scopes.{IsScoped}
 use Rattle.cic_rules.specs.Contexts.{products_over}
 use Rattle.cic_rules.specs.Environments.{IsEnvironment, AreScopedCtors, entered}
-use Rattle.cic_rules.specs.Families.{count_params, count_indices, newest_first}
+use Rattle.cic_rules.specs.Families.{count_params, newest_first}
 use Rattle.cic_rules.specs.Infer.{union, sort_of_at}
 use Rattle.cic_rules.specs.Eliminators.{MOTIVE, type_of_decl, eliminator_type, motive_type, cases}
-use Rattle.cic_rules.specs.Inductive.{permitted, ALL_SORTS, are_props, Opened, opened, CtorSorts, open_params, rows_of, assumed_type, params_of, are_positive, rows_fit, sort_at_end, has_twice, names_of, any_taken, checked, check_family, check_inductive_at}
+use Rattle.cic_rules.specs.Inductive.{permitted, ALL_SORTS, are_props, open_params, rows_of, assumed_type, params_of, are_positive, rows_fit, sort_at_end, has_twice, names_of, any_taken, checked, check_family, check_inductive_at}
 use Rattle.cic_rules.specs.Declare.{IsChecked}
 use Rattle.cic_rules.specs.Runs.{Run, check_size, require, forbid, some_or, give}
 use Rattle.cic_rules.specs.Laws.{Tells, IsCheckedIn}
@@ -27,9 +27,8 @@ use Rattle.cic_rules.proofs.TellsLaws.{tells_pure, tells_bind, tells_step}
 use Rattle.cic_rules.proofs.InductiveScopes.{scope_of_inductives}
 use Rattle.inductive_check.specs.declared.elimination.Motive.{Motive}
 use Rattle.inductive_check.specs.Forms.{params_under}
-use Rattle.inductive_check.specs.Levels.{variable_at, values_at, levels_of, IsSite, MayPlace, AreCtorsPlaced}
-use Rattle.inductive_check.specs.Elimination.{motive_type_at, cases_at}
-use Rattle.inductive_check.specs.Entries.{AreSorts, AreSomeSorts, AreCtorsFree, MayEliminate, HasFew, top_site, top_names, behind_params_at}
+use Rattle.inductive_check.specs.Levels.{variable_at, values_at, levels_of, MayPlace, AreCtorsPlaced}
+use Rattle.inductive_check.specs.Entries.{AreSorts, AreSomeSorts, AreCtorsFree, MayEliminate, top_site, top_names, behind_params_at}
 use Rattle.inductive_check.proofs.FormLaws.{params_top}
 use Rattle.inductive_check.proofs.LevelLaws.{values_top, levels_above}
 use Rattle.inductive_check.proofs.PartLaws.{over_stop, none_behind}
@@ -49,7 +48,7 @@ eliminate_by env c is h =
       short = is.short;
       place = h.place;
       arity = scoped_free (length c.decl.params) (length env) c.decl.arity
-      (end_scoped c.decl.params c.decl.arity 0 (length c.decl.params) (length env) (omega arith) h.arity);
+          (end_scoped c.decl.params c.decl.arity 0 (length c.decl.params) (length env) (omega arith) h.arity);
       ctors = ctors_free (length c.decl.params) (suc (length env)) c.decl.ctors h.ctors;
     }
 

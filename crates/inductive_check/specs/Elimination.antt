@@ -1,5 +1,5 @@
 -- The parts of an eliminator's type where they stand, by the levels of binders.
-use Rattle.std.specs.Prelude.{◌≡◌, ℕ, zero, suc, ◌+◌, ◌-◌, ◌^◌, ◌≤◌, List, [], ◌∷◌, length, if◌then◌else◌}
+use Rattle.std.specs.Prelude.{◌≡◌, ℕ, ◌+◌, List, [], ◌∷◌, if◌then◌else◌}
 use Rattle.core_term.specs.declared.sorts.Sort.{Sort}
 use Rattle.core_term.specs.Tree.{Tree, Var, Sorted, Constant, Prod, App}
 use Rattle.term_spine.specs.Instantiate.{instantiate, instantiate_all}

@@ -1,6 +1,6 @@
 -- Where the terms of a declaration are put, by the levels of binders.
-use Rattle.std.specs.Prelude.{ℕ, zero, suc, ◌+◌, ◌-◌, ◌^◌, ◌≤◌, ◌<◌, List, [], ◌∷◌, length}
-use Rattle.core_term.specs.Tree.{Tree, Var, depth_of, free_bound}
+use Rattle.std.specs.Prelude.{ℕ, zero, suc, ◌-◌, ◌^◌, ◌≤◌, List, [], ◌∷◌, length}
+use Rattle.core_term.specs.Tree.{Tree, Var, free_bound}
 use Rattle.cic_rules.specs.declared.decls.Ctor.{Ctor}
 use Rattle.cic_rules.specs.Scopes.{AreBefore}
 use Rattle.inductive_check.specs.declared.levels.Site.{Site}

@@ -9,7 +9,9 @@ ghost use Rattle.inductive_check.specs.Elimination.{IsMotive, motive_at, motive_
 
 use crate::forms::mentions;
 use crate::labels::{argument_name, case_name, hypothesis_name, value_name};
-use crate::levels::{Site, applied_to_context, applied_to_indices, applied_to_row, level_variable, placed, within};
+use crate::levels::{
+    Site, applied_to_context, applied_to_indices, applied_to_row, level_variable, placed, within,
+};
 use crate::names::Names;
 use base_core::Text;
 use cic_rules::{CheckedInductive, Ctor, GlobalEnv};

@@ -20,7 +20,9 @@ use crate::levels::Site;
 use crate::names::{Names, eliminator_name};
 use crate::parts::products_over;
 use base_core::{Limit, List, NoMem, NumberList, Stop, TERM_DEPTH_LIMIT, Text};
-use cic_rules::{CheckedInductive, Ctor, Entry, EntryKind, EntryList, GlobalEnv, Hyp, InductiveDecl};
+use cic_rules::{
+    CheckedInductive, Ctor, Entry, EntryKind, EntryList, GlobalEnv, Hyp, InductiveDecl,
+};
 use core_term::{Sort, Term, TermStop};
 use shared_map::SharedList;
 use std::alloc::Global;

@@ -1,4 +1,4 @@
-use Rattle.std.proofs.Common.{◌≡◌, ◌∙◌, ◌+◌, ◌∷◌, Bool, true, false, Err, sym, ap, subst, arith}
+use Rattle.std.proofs.Common.{◌≡◌, ◌∙◌, ◌+◌, ◌∷◌, true, false, Err, sym, ap, subst, arith}
 use Rattle.core_term.specs.Tree.{Tree, Prod}
 use Rattle.core_term.specs.Nodes.{tree_of}
 use Rattle.core_term.specs.Answers.{within_limits, Gives}
@@ -68,8 +68,8 @@ recursive_case-case_type-requires t c =
           c.requires.env,
           (
             place_under c.in_ok-inner.inner c.in_ok-behind.behind c.args.b.now c.in_ok-behind.ensures
-            (place_more c.args.site.now c.in_ok-inner.inner c.args.b.now c.in_ok-inner.ensures c.requires.first.site (omega (arith, room)) c.requires.rest)
-            (omega (arith, deeper, room)),
+                (place_more c.args.site.now c.in_ok-inner.inner c.args.b.now c.in_ok-inner.ensures c.requires.first.site (omega (arith, room)) c.requires.rest)
+                (omega (arith, deeper, room)),
             (omega (arith, below, deeper, deepest), omega (arith, deeper, deepest, room)),
           ),
         ),

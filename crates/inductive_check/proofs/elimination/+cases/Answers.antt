@@ -27,7 +27,7 @@ cases-requires t c =
             place_under c.args.site.now c.in_ok-inner-in-len1-up.inner c.args.i.now.decl.arity c.in_ok-inner-in-len1-up.ensures c.requires.arity (omega (arith, room)),
             (
               placed_later c.args.site.now c.in_ok-inner-in-len1-up.inner c.args.ctors.now c.ctor-item.result (take (length c.args.ctors.now - 1) (drop 1 c.args.ctors.now))
-              c.in_ok-inner-in-len1-up.ensures split c.requires.ctors,
+                  c.in_ok-inner-in-len1-up.ensures split c.requires.ctors,
               (omega (arith, below, deeper), (omega (arith, deeper, room, shorter), omega (arith, count, shorter))),
             ),
           ),

@@ -1,4 +1,4 @@
-use Rattle.std.proofs.Common.{◌≡◌, ◌-◌, ◌++◌, length}
+use Rattle.std.proofs.Common.{◌≡◌, ◌-◌, ◌++◌}
 use Rattle.cic_rules.specs.Eliminators.{digits, first_free}
 use Rattle.inductive_check.proofs.labels.first_free.Given as goal
 

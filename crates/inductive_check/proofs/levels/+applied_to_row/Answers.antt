@@ -1,4 +1,4 @@
-use Rattle.std.proofs.Common.{◌+◌, ◌-◌, arith, rules}
+use Rattle.std.proofs.Common.{◌+◌, ◌-◌, arith}
 use Rattle.core_term.specs.Tree.{Var}
 use Rattle.inductive_check.specs.Forms.{params_under}
 use Rattle.inductive_check.proofs.LevelLaws.{row_next, applied_gives, applied_ends}
