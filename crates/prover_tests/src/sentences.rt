@@ -1015,15 +1015,15 @@ const PRELUDE_COST: u32 = 210;
 
 fn prelude(rt: &impl Abort, alloc: Global) -> Result<GlobalEnv, Fail> {
     let mut env = GlobalEnv::empty();
-    let mut left = PRELUDE_COST;
+    let mut cost: u32 = 0;
     for text in &PRELUDE {
         let mut fuel = Fuel::new(1000);
         let outcome = run(alloc, &env, text, &mut fuel)?;
         assert_eq!(rt; outcome.told.as_str(), "", "{text}");
-        left = left.saturating_sub(1).saturating_sub(fuel.spent());
+        cost = cost.saturating_add(1).saturating_add(fuel.spent());
         env = outcome.env;
     }
-    assert_eq!(rt; left, 0);
+    assert_eq!(rt; cost, PRELUDE_COST);
     Ok(env)
 }
 
