@@ -4,4 +4,6 @@
 #[cfg(test)]
 mod focus;
 #[cfg(test)]
+mod sentences;
+#[cfg(test)]
 mod terms;

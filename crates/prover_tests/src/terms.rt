@@ -298,7 +298,7 @@ const TERMS: [Row; 86] = [
 const MOST_BYTES: usize = 10000;
 
 /// The tokens of a term and a period.
-fn tokens_of(alloc: Global, text: &str) -> Result<TokenList, Fail> {
+pub(crate) fn tokens_of(alloc: Global, text: &str) -> Result<TokenList, Fail> {
     if text.len() > MOST_BYTES {
         return Err(Fail::from("too long a row"));
     }
@@ -349,7 +349,7 @@ fn line_of(alloc: Global, env: &GlobalEnv, text: &str, fuel: &mut Fuel) -> Resul
 }
 
 /// A refusal by its number, with its place where that is not the whole.
-fn refused(alloc: Global, stop: Stop) -> Result<String, Fail> {
+pub(crate) fn refused(alloc: Global, stop: Stop) -> Result<String, Fail> {
     let Stop::Refused(refusal) = stop else {
         return Err(Fail::from("a limit"));
     };
