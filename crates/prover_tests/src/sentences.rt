@@ -1,5 +1,7 @@
 //! Sentences without proofs on their whole way: read, elaborated, judged, entered, and printed. The
 //! wanted lines and units are from a program that was written apart from this one.
+ghost use Rattle.cic_rules.specs.Judges.{MayJudge};
+
 use crate::terms::{refused, tokens_of};
 use base_core::refusal_codes::NAME_TAKEN;
 use base_core::{Place, Refusal, Stop, Text};
@@ -773,7 +775,9 @@ fn closed_type(
     inner: &Context,
     annotation: &Annotation,
     fuel: &mut Fuel,
-) -> Result<Option<Term>, Stop> {
+) -> Result<Option<Term>, Stop>
+    requires { MayJudge env.now inner.now }
+{
     match annotation {
         Annotation::Untyped => Ok(None),
         Annotation::Typed { ty, .. } => {
