@@ -1,10 +1,9 @@
 //! Frames, however their bytes are cut.
+use FrameFault::{BadHeader, NoLength, TooLong};
 use base_core::NoMem;
 use rpc_frames::{FrameFault, FrameStop, Frames, write_frame};
 use std::alloc::Global;
 use std::process::Abort;
-
-use FrameFault::{BadHeader, NoLength, TooLong};
 
 // What was read: each body and a `|`, and the fault with the number of bytes fed when it came.
 #[derive(Drop)]
