@@ -1,0 +1,1 @@
+//! Laws of the definitions, for the proofs above this crate. Each function does nothing.

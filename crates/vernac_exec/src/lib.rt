@@ -1,0 +1,10 @@
+//! Running one sentence: what it declares or answers, what its author is told, and what it costs.
+//! Today that is every command that needs no proof.
+#![tactic(auto)]
+
+mod deed;
+mod laws;
+mod state;
+
+pub use deed::Deed;
+pub use state::{ProverState, Row};
