@@ -27,6 +27,10 @@ use Rattle.vernac_exec.specs.declared.deed.Deed.{Deed}
 use Rattle.vernac_exec.specs.declared.deed.Deed.TheVariants.{Declares, Answers}
 use Rattle.vernac_exec.specs.Families.{family, written_names, elab_constructors}
 
+-- a term and its type
+abbrev pub judgement_text : List Slot → Tree → Tree → List ℕ
+judgement_text env t ty = printed env [] t ++ (codes " : " ++ printed env [] ty)
+
 -- in an environment; so many judgements may stand in one another
 module _ (env : List Slot) (calls : ℕ) where
   -- what was elaborated goes to the kernel
@@ -81,16 +85,12 @@ module _ (env : List Slot) (calls : ℕ) where
     arity ← elab env calls params s
     elab_family name params arity cs
 
-  -- a term and its type
-  abbrev pub judgement_text : Tree → Tree → List ℕ
-  judgement_text t ty = printed env [] t ++ (codes " : " ++ printed env [] ty)
-
   -- `Check` term
   abbrev pub check : Term → Run Deed
   check s = do
     t ← elab env calls [] s
     i ← infer_at env calls [] t
-    pure (Answers (judgement_text t i.ty))
+    pure (Answers (judgement_text env t i.ty))
 
   -- a command where no proof is open
   unfoldable pub obey : Command → Run Deed

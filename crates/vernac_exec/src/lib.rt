@@ -7,4 +7,5 @@ mod laws;
 mod state;
 
 pub use deed::Deed;
+pub use laws::{law_of_states, law_of_units};
 pub use state::{ProverState, Row};

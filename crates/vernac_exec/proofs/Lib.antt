@@ -1,0 +1,3 @@
+pub mod FuelOfExec
+pub mod UnitLaws
+pub mod StateLaws
