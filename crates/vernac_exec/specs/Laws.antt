@@ -34,13 +34,16 @@ grant units = min (units - 1) UNIT_LIMIT
 abbrev pub granted_run : ProverState → Sentence → ℕ → Ran Deed
 granted_run m s units = sentence_run m.env NESTING_LIMIT s.kind s.text (grant units)
 
--- the run on the units that are handed in tells whether the cost fits: it doesn't exactly where that run ends for want of units and a
--- whole run had more. Where it fits, the run is as good as a whole one
+-- that run had units enough: it did not end for want of them, or no run has more
+abbrev pub HadEnough : ProverState → Sentence → ℕ → Type 0
+HadEnough m s units = (granted_run m s units).answer ≡ Err (Out StepLimit) → grant units ≡ UNIT_LIMIT
+
+-- so it tells whether the cost fits, and where it does it is as good as a whole run
 pub record IsDecided (m : ProverState) (s : Sentence) (units : ℕ) : Type 0 where
   pub short : (granted_run m s units).answer ≡ Err (Out StepLimit) → grant units < UNIT_LIMIT → units < cost m s
-  pub fits : ((granted_run m s units).answer ≡ Err (Out StepLimit) → grant units ≡ UNIT_LIMIT) → cost m s ≤ units
-  pub answer : ((granted_run m s units).answer ≡ Err (Out StepLimit) → grant units ≡ UNIT_LIMIT) → (granted_run m s units).answer ≡ (whole_run m s).answer
-  pub spent : ((granted_run m s units).answer ≡ Err (Out StepLimit) → grant units ≡ UNIT_LIMIT) → 1 + (grant units - (granted_run m s units).left) ≡ cost m s
+  pub fits : HadEnough m s units → cost m s ≤ units
+  pub answer : HadEnough m s units → (granted_run m s units).answer ≡ (whole_run m s).answer
+  pub spent : HadEnough m s units → 1 + (grant units - (granted_run m s units).left) ≡ cost m s
 
 abbrev pub OneRunDecides : Type 0
 OneRunDecides = (m : ProverState) (s : Sentence) (units : ℕ) → 1 ≤ units → IsDecided m s units

@@ -3,9 +3,11 @@
 #![tactic(auto)]
 
 mod deed;
+mod diagnostics;
 mod laws;
 mod state;
 
 pub use deed::Deed;
+pub use diagnostics::diagnostics_of;
 pub use laws::{law_of_states, law_of_units};
 pub use state::{ProverState, Row};
