@@ -54,11 +54,11 @@ axiom_again = refl
 -- Definition i (x : Prop) := x
 definition_enters : obey [] 2000 (command.Define HERE (word (codes "i")) (Group HERE (Named (word (codes "x")) ∷ []) HERE (PropSort HERE) HERE NoGroup) Untyped HERE (Name (word (codes "x")))) 1000000
     ≡ pure (Declares item.Definition (own_slot (record {
-        name = codes "i";
-        ty = Prod (codes "x") (Sorted sort.PropSort) (Sorted sort.PropSort);
-        kind = Defined (Lam (codes "x") (Sorted sort.PropSort) (Var 0)) false;
-        used = [];
-      }) ∷ [])) 999993
+      name = codes "i";
+      ty = Prod (codes "x") (Sorted sort.PropSort) (Sorted sort.PropSort);
+      kind = Defined (Lam (codes "x") (Sorted sort.PropSort) (Var 0)) false;
+      used = [];
+    }) ∷ [])) 999993
 unfolding obey elab open_groups infer_at declare_at
 definition_enters = refl
 

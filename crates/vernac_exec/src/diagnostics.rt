@@ -75,10 +75,16 @@ fn told_stop(alloc: Global, sentence: &str, stop: Stop) -> Result<DiagList, NoMe
 {
     match stop {
         Stop::Refused(refusal) => {
-            only(alloc, error_at(alloc, sentence, refusal.code, refusal.place)?)
+            only(
+                alloc,
+                error_at(alloc, sentence, refusal.code, refusal.place)?,
+            )
         }
         Stop::Out(limit) => {
-            only(alloc, error_at(alloc, sentence, limit_code(limit), Place::Whole)?)
+            only(
+                alloc,
+                error_at(alloc, sentence, limit_code(limit), Place::Whole)?,
+            )
         }
         Stop::NoMem => Ok(DiagList::new(alloc)),
     }

@@ -74,12 +74,7 @@ impl ProverState {
     }
 
     /// The state behind a sentence that gives this environment.
-    fn declared(
-        &self,
-        alloc: Global,
-        kind: ItemKind,
-        env: GlobalEnv,
-    ) -> Result<ProverState, NoMem>
+    fn declared(&self, alloc: Global, kind: ItemKind, env: GlobalEnv) -> Result<ProverState, NoMem>
         ensures { IfOk result (λ s. s ≡ declared self.now kind env) }
     {
         let row = Row {
