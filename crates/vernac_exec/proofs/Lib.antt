@@ -1,0 +1,4 @@
+pub mod FuelOfExec
+pub mod UnitLaws
+pub mod StateLaws
+pub mod Samples

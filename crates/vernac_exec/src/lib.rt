@@ -1,0 +1,13 @@
+//! Running one sentence: what it declares or answers, what its author is told, and what it costs.
+//! Today that is every command that needs no proof.
+#![tactic(auto)]
+
+mod deed;
+mod diagnostics;
+mod laws;
+mod state;
+
+pub use deed::Deed;
+pub use diagnostics::diagnostics_of;
+pub use laws::{law_of_states, law_of_units};
+pub use state::{ProverState, Row};
