@@ -2,13 +2,9 @@
 #![tactic(auto)]
 
 #[cfg(test)]
-mod conversions;
-#[cfg(test)]
 mod families;
 #[cfg(test)]
 mod judges;
-#[cfg(test)]
-mod kernels;
 #[cfg(test)]
 mod notation;
 #[cfg(test)]

@@ -1,6 +1,6 @@
 //! Terms in a short notation, for rows of cases. A digit is a variable, a small letter the global
-//! at its place, `P` and `S` are the sorts of propositions and of small types, `T` and `L` the first
-//! and the last level of `Type`. Behind its parts stand `@` for an application, `>` for a product, `!` for a function and `=` for a let.
+//! at its place, `P` and `S` are the sorts of propositions and of small types. Behind its parts
+//! stand `@` for an application, `>` for a product, `!` for a function and `=` for a let.
 use base_core::Text;
 use core_term::{Sort, Term, TermStop};
 use std::alloc::Global;
@@ -22,8 +22,6 @@ fn leaf_or_node(alloc: Global, sign: u8, parts: &mut Vec<Term>) -> Result<Term, 
         b'a'..=b'z' => Ok(Term::constant(alloc, u32::from(sign - b'a'))?),
         b'P' => Ok(Term::sort(alloc, Sort::PropSort)?),
         b'S' => Ok(Term::sort(alloc, Sort::SetSort)?),
-        b'T' => Ok(Term::sort(alloc, Sort::TypeSort(1))?),
-        b'L' => Ok(Term::sort(alloc, Sort::TypeSort(1000))?),
         _ => node(alloc, sign, parts),
     }
 }
