@@ -3,7 +3,3 @@
 
 #[cfg(test)]
 mod focus;
-#[cfg(test)]
-mod sentences;
-#[cfg(test)]
-mod terms;
