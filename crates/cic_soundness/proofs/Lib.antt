@@ -7,3 +7,4 @@ pub mod Growth
 pub mod InferSound
 pub mod IotaLaws
 pub mod ReduceSound
+pub mod Samples
