@@ -190,7 +190,7 @@ module _ (env : List Slot) (calls : ℕ) (d : InductiveDecl) where
   after = own_slot (assumed_type d) ∷ []
 
   abbrev found_names : List ℕ → List ℕ → List ℕ → List ℕ
-  found_names ps as qs = union (union ps as) qs
+  found_names first second third = union (union first second) third
 
   passed : (s : Sort) (o : Opened) (a : InferredSort) (inner : List Slot) (q : CtorSorts) → has_twice (names_of d) ≡ false → any_taken env (names_of d) ≡ false →
       sort_at_end (end_of_products d.arity) ≡ Some s → IsOpened env [] [] d.params o → IsKnown env o.ctx d.arity (Sorted a.sort) a.used → env ++ after ≡ inner →

@@ -246,6 +246,9 @@ module _ (env : List Slot) (axs : List ℕ) where
       GroundedAssumption p (record { name = name; ty = ty; kind = Admitted; used = used }) s at a (listed p grounds a) h all
   own_grounded p name ty (Defined body opaque) used at (Definition s _ h k) grounds all =
       GroundedDefinition p (record { name = name; ty = ty; kind = Defined body opaque; used = used }) body opaque s at refl h k all
+  own_grounded p name ty (Inductive _) used at typed grounds all = elim typed [ ]
+  own_grounded p name ty (Constructor _ _) used at typed grounds all = elim typed [ ]
+  own_grounded p name ty (Eliminator _ _) used at typed grounds all = elim typed [ ]
 
   type_grounded : (p : ℕ) (d : InductiveDecl) (used : List ℕ) (s : Sort) (rows : List (List Sort)) → entry_at env p ≡ Some (type_entry d used) →
       decl_at env p ≡ Some d → KeepsRules (take p env) d used s rows → AreGrounded used → IsGrounded env axs p
