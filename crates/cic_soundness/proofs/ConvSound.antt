@@ -1,5 +1,5 @@
 -- Where conversion answers Yes, the terms are convertible, or the first is below the second.
-use Rattle.std.specs.Prelude.{◌≡◌, ℕ, zero, suc, ◌+◌, ◌==◌, nat_lt, List, [], ◌∷◌, length, Bool, true, false, Option, Some, None, slice_get, if◌then◌else◌, refl}
+use Rattle.std.specs.Prelude.{◌≡◌, ℕ, zero, suc, ◌==◌, nat_lt, List, [], ◌∷◌, length, Bool, true, false, Option, Some, None, if◌then◌else◌, refl}
 use Rattle.std.proofs.Common.{arith, subst, ap, sym, ◌∙◌}
 use Rattle.std.proofs.lemmas.Bool.Decides.{nat_tests}
 use Rattle.base_core.specs.declared.refusals.Stop.TheVariants.{Out}
@@ -15,7 +15,7 @@ use Rattle.cic_rules.specs.declared.judge.Mode.TheVariants.{Same, Below}
 use Rattle.cic_rules.specs.Contexts.{plain_hyp}
 use Rattle.cic_rules.specs.Environments.{body_of_global}
 use Rattle.cic_rules.specs.Families.{Family, major_index, value_among, major_premise, eliminator_of, replace_major}
-use Rattle.cic_rules.specs.Derive.{Conv, Refl, Sym, Trans, InProduct, InLambda, Delta, Eta, Cumul, Equal, Sorts, Codomains, CumulTrans}
+use Rattle.cic_rules.specs.Derive.{Conv, Refl, Sym, Trans, InProduct, InLambda, Delta, Eta, Equal, Sorts, Codomains, CumulTrans}
 use Rattle.cic_rules.specs.Runs.{Run, ◌>>=◌, pure, spend, check_size, Turn, Final, GoOn}
 use Rattle.cic_rules.specs.Reduce.{whnf_at}
 use Rattle.cic_rules.specs.Convert.{compare_cost, sorts_fit, Blocker, Sides, put_back, blocker_by, blocker_at, unfold_left, unfold_right, unfold_both, unfold_later, delta_step, is_neutral, unblock, conv_all, conv_spines, conv_heads, conv_binders, conv_eta, conv_reduced, conv_step, compare, conv_at}
@@ -178,7 +178,6 @@ ends_with env ctx mode t u run P first h = tells_bind first (λ answer k. tells_
 module _ (env : List Slot) (calls : ℕ) (head : List Hyp → Tree → Run Tree) (conv : List Hyp → Mode → Tree → Tree → Run Bool)
     (heads : (ctx : List Hyp) (t : Tree) → Tells (head ctx t) (λ u. Conv env ctx t u))
     (convs : (ctx : List Hyp) (mode : Mode) (t u : Tree) → Tells (conv ctx mode t u) (λ answer. answer ≡ true → Fits env ctx mode t u)) where
-
   unblock_tells : (ctx : List Hyp) (mode : Mode) (t u : Tree) → Tells (unblock env calls head conv ctx t u) (Turns env ctx mode t u)
   unblock_tells ctx mode t u =
       tells_bind (blocker_tells env ctx (head ctx) (heads ctx) calls t) (λ b h. tells_bind (blocker_tells env ctx (head ctx) (heads ctx) calls u)

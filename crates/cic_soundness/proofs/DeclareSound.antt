@@ -1,5 +1,5 @@
 -- A declaration that is accepted keeps an environment well formed.
-use Rattle.std.specs.Prelude.{◌≡◌, ℕ, List, [], ◌∷◌, ◌++◌, length, Bool, true, false, Option, Some, None, Result, Ok, Err, if◌then◌else◌, refl}
+use Rattle.std.specs.Prelude.{◌≡◌, ℕ, List, [], ◌∷◌, ◌++◌, length, Bool, true, false, Option, Some, None, Ok, Err, if◌then◌else◌}
 use Rattle.std.proofs.Common.{ap, sym, ◌∙◌, subst}
 use Rattle.base_core.specs.declared.refusals.Stop.TheVariants.{Out}
 use Rattle.base_core.specs.declared.refusals.Limit.TheVariants.{SizeLimit}
@@ -9,7 +9,6 @@ use Rattle.cic_rules.specs.declared.decls.Decl.{Decl}
 use Rattle.cic_rules.specs.declared.decls.Decl.TheVariants.{Assume, Define, Admit, Induct}
 use Rattle.cic_rules.specs.declared.decls.InductiveDecl.{InductiveDecl}
 use Rattle.cic_rules.specs.declared.entries.Entry.{Entry}
-use Rattle.cic_rules.specs.declared.entries.EntryKind.{EntryKind}
 use Rattle.cic_rules.specs.declared.entries.EntryKind.TheVariants.{Assumed, Admitted, Defined}
 use Rattle.cic_rules.specs.declared.env.Slot.{Slot}
 use Rattle.cic_rules.specs.declared.families.CheckedInductive.{CheckedInductive}
@@ -18,7 +17,7 @@ use Rattle.cic_rules.specs.Scopes.{AreBefore}
 use Rattle.cic_rules.specs.Eliminators.{family_entries}
 use Rattle.cic_rules.specs.Inductive.{permitted}
 use Rattle.cic_rules.specs.Infer.{union}
-use Rattle.cic_rules.specs.Declare.{are_small, types_of, eliminators, enter, assume, define, declare_at}
+use Rattle.cic_rules.specs.Declare.{are_small, types_of, eliminators, enter, define, declare_at}
 use Rattle.cic_rules.specs.Derive.{Empty, HasType}
 use Rattle.cic_rules.specs.WellFormed.{IsTyped, Assumption, Admission, Definition, WfEnv, Adds, AddsFamily}
 use Rattle.cic_rules.specs.Runs.{give}
@@ -72,9 +71,9 @@ module _ (env : List Slot) (is : WfEnv env) where
         WfEnv (env ++ slotted (Some d) entries)
     family_formed d c entries h e =
         let made : family_entries env c.decl c.used c.sorts ≡ entries =
-            small_by (are_small (types_of (family_entries env c.decl c.used c.sorts))) (family_entries env c.decl c.used c.sorts) entries e in
+        small_by (are_small (types_of (family_entries env c.decl c.used c.sorts))) (family_entries env c.decl c.used c.sorts) entries e in
         let same : family_entries env d c.used (permitted h.sort h.rows) ≡ entries =
-            ap (λ x. family_entries env x c.used (permitted h.sort h.rows)) (sym h.decl) ∙ ap (λ x. family_entries env c.decl c.used x) (sym h.sorts) ∙ made in
+        ap (λ x. family_entries env x c.used (permitted h.sort h.rows)) (sym h.decl) ∙ ap (λ x. family_entries env c.decl c.used x) (sym h.sorts) ∙ made in
         subst (λ x. WfEnv (env ++ slotted (Some d) x)) same (AddsFamily d c.used h.sort h.rows is h.before h.keeps)
 
     declared : (d : Decl) → Tells (declare_at env calls d) WfEnv

@@ -1,11 +1,11 @@
 -- An inductive declaration that passes its test keeps the rules, by derivable sorts.
-use Rattle.std.specs.Prelude.{◌≡◌, ℕ, zero, suc, ◌+◌, ◌<◌, ◌≤◌, ◌^◌, ◌==◌, nat_le, List, [], ◌∷◌, ◌++◌, length, Bool, true, false, Option, Some, None, Result, Ok, Err, IsTrue, if◌then◌else◌, refl}
+use Rattle.std.specs.Prelude.{◌≡◌, ℕ, zero, suc, ◌+◌, ◌<◌, ◌≤◌, ◌^◌, ◌==◌, nat_le, List, [], ◌∷◌, ◌++◌, length, Bool, true, false, Some, Ok, Err, IsTrue, if◌then◌else◌, refl}
 use Rattle.std.proofs.Common.{arith, ap, sym, ◌∙◌, subst, length-append}
 use Rattle.std.proofs.lemmas.Bool.Decides.{nat_tests}
 use Rattle.base_core.specs.declared.refusals.Stop.TheVariants.{Out}
 use Rattle.base_core.specs.declared.refusals.Limit.TheVariants.{SizeLimit, DepthLimit}
 use Rattle.core_term.specs.declared.sorts.Sort.{Sort}
-use Rattle.core_term.specs.Tree.{Tree, Var, Sorted, Constant, Prod, Lam, LetIn, App}
+use Rattle.core_term.specs.Tree.{Tree, Sorted, Prod}
 use Rattle.term_spine.specs.Globals.{has}
 use Rattle.term_spine.specs.Spine.{count_products, end_of_products}
 use Rattle.cic_rules.specs.declared.context.Hyp.{Hyp}
@@ -27,7 +27,7 @@ use Rattle.cic_rules.specs.Inductive.{Opened, opened as opening, CtorSorts, ctor
 use Rattle.cic_rules.specs.Runs.{spend, check_size}
 use Rattle.cic_rules.specs.Laws.{HasAll, Tells}
 use Rattle.cic_rules.proofs.TellsLaws.{tells_give, tells_pure, tells_stop, tells_bind, tells_step, tells_require, tells_forbid, tells_some, tells_within}
-use Rattle.cic_rules.proofs.UsedLaws.{union_first, union_second, names_union}
+use Rattle.cic_rules.proofs.UsedLaws.{union_first, names_union}
 use Rattle.cic_soundness.specs.Laws.{IsKnown}
 use Rattle.cic_soundness.proofs.InferSound.{all_first, all_second, sorts_are_sound}
 use Rattle.cic_soundness.proofs.Growth.{formed_later}
@@ -110,9 +110,9 @@ ctors_tells inner place d calls ctx (c ∷ cs) =
     (record {
       names = names_union (length inner) r.used q.used h.names k.names;
       derived = λ all more formed. (
-          h.derived all (all_first r.used q.used all more) formed,
-          form,
-          k.derived all (all_second r.used q.used all more) formed,
+        h.derived all (all_first r.used q.used all more) formed,
+        form,
+        k.derived all (all_second r.used q.used all more) formed,
       );
     }))))
 
@@ -210,7 +210,7 @@ module _ (env : List Slot) (calls : ℕ) (d : InductiveDecl) where
       let last : AreNames (suc m) q.used = subst (λ x. AreNames x q.used) long ctors.names in
       let names : AreNames (suc m) total = names_union (suc m) (union o.used a.used) q.used (names_more m (suc m) (union o.used a.used) (omega arith) first) last in
       let early : HasAll (union o.used a.used) used =
-          λ c e. kept m c total (has_before m c (union o.used a.used) first.before e) (union_first (union o.used a.used) q.used c e) in
+      λ c e. kept m c total (has_before m c (union o.used a.used) first.before e) (union_first (union o.used a.used) q.used c e) in
       let opens : HasAll o.used used = all_first o.used a.used used early in
       let formed : WfContext env used ctx = h.formed used opens Empty in
       let itself : HasAll total (m ∷ used) = λ c e. with_itself m c total e in

@@ -1,5 +1,5 @@
 -- Each entry of a well formed environment is grounded.
-use Rattle.std.specs.Prelude.{◌≡◌, ◌↔◌, ℕ, zero, suc, ◌+◌, ◌-◌, ◌<◌, ◌≤◌, ◌==◌, nat_lt, List, [], ◌∷◌, ◌++◌, length, take, Bool, true, false, Option, Some, None, IsTrue, slice_get, if◌then◌else◌, refl}
+use Rattle.std.specs.Prelude.{◌≡◌, ℕ, zero, suc, ◌+◌, ◌-◌, ◌<◌, ◌≤◌, ◌==◌, nat_lt, List, [], ◌∷◌, ◌++◌, length, take, Bool, true, false, Option, Some, None, IsTrue, slice_get, if◌then◌else◌, refl}
 use Rattle.std.proofs.Common.{arith, ap, sym, ◌∙◌, subst, length-append}
 use Rattle.std.proofs.lemmas.Bool.Decides.{nat_tests}
 use Rattle.core_term.specs.declared.sorts.Sort.{Sort}
@@ -159,7 +159,7 @@ module _ (env : List Slot) (d : InductiveDecl) (used : List ℕ) (s : Sort) (row
       let found = get_some (family_entries env d used (permitted s rows)) (suc k) lt in
       let is = found.1 in
       let m = member (length env) d 0 d.ctors (eliminator_entries (env ++ (type_slot d used ∷ [])) (length env) d (permitted s rows)) k found.0
-          (λ j at. eliminator_member (env ++ (type_slot d used ∷ [])) (length env) d (permitted s rows) j found.0 at) is in
+      (λ j at. eliminator_member (env ++ (type_slot d used ∷ [])) (length env) d (permitted s rows) j found.0 at) is in
       MemberAt (length env) (suc k) found.0 (type_entry d used) d s rows (omega (arith, e)) (omega (arith, e))
       (entry_later env added p (suc k) e ∙ slotted_entry (Some d) (family_entries env d used (permitted s rows)) (suc k) found.0 is)
       m.family m.used type_at decl_is whole_keeps

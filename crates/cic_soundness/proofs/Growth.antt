@@ -1,7 +1,7 @@
 -- What is derived in an environment is derived in each longer one.
 use Rattle.std.specs.Prelude.{◌≡◌, ℕ, zero, suc, List, [], ◌∷◌, ◌++◌, Option, Some, None, slice_get, refl}
 use Rattle.std.proofs.Common.{ap, ◌∙◌}
-use Rattle.core_term.specs.Tree.{Tree, Var, Sorted, Constant, Prod, Lam, LetIn, App}
+use Rattle.core_term.specs.Tree.{Tree, Constant}
 use Rattle.term_spine.specs.Spine.{head_of, arguments_of}
 use Rattle.cic_rules.specs.declared.context.Hyp.{Hyp}
 use Rattle.cic_rules.specs.declared.decls.InductiveDecl.{InductiveDecl}

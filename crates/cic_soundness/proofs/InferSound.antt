@@ -1,6 +1,6 @@
 -- What inference, sorts and checks answer is derivable.
-use Rattle.std.specs.Prelude.{◌≡◌, ℕ, zero, suc, ◌+◌, ◌<◌, List, [], ◌∷◌, length, Bool, true, false, Option, Some, None, IsTrue, slice_get, if◌then◌else◌, refl}
-use Rattle.std.proofs.Common.{arith, subst}
+use Rattle.std.specs.Prelude.{◌≡◌, ℕ, zero, suc, ◌<◌, List, [], ◌∷◌, length, Bool, true, Option, Some, None, IsTrue, slice_get, refl}
+use Rattle.std.proofs.Common.{arith}
 use Rattle.std.proofs.lemmas.Bool.Decides.{nat_tests}
 use Rattle.base_core.specs.declared.refusals.Stop.TheVariants.{Out}
 use Rattle.base_core.specs.declared.refusals.Limit.TheVariants.{DepthLimit}
@@ -14,17 +14,16 @@ use Rattle.cic_rules.specs.declared.env.Slot.{Slot}
 use Rattle.cic_rules.specs.declared.judge.Mode.{Mode}
 use Rattle.cic_rules.specs.declared.judge.Mode.TheVariants.{Below}
 use Rattle.cic_rules.specs.declared.judge.Inferred.{Inferred}
-use Rattle.cic_rules.specs.declared.judge.InferredSort.{InferredSort}
 use Rattle.cic_rules.specs.declared.judge.Arrow.{Arrow}
 use Rattle.cic_rules.specs.Contexts.{plain_hyp, defined_hyp, type_of_variable}
 use Rattle.cic_rules.specs.Environments.{slot_entry, entry_type, type_of_global}
-use Rattle.cic_rules.specs.Scopes.{AreNames}
 use Rattle.cic_rules.specs.Derive.{Conv, Cumul, Equal, WfContext, Assumes, Defines, HasType, OfSort, OfVariable, OfGlobal, OfProduct, OfLambda, OfApply, OfLet, Converts, Alpha}
 use Rattle.cic_rules.specs.Runs.{Run, spend, check_size}
 use Rattle.cic_rules.specs.Reduce.{whnf_at}
 use Rattle.cic_rules.specs.Convert.{compare_cost, conv_at}
 use Rattle.cic_rules.specs.Infer.{union, type_of_sort, inferred, inferred_sort, arrow, must_be_sort, as_sort, sort_of, must_be_arrow, as_arrow, check, infer_by, infer_at}
 use Rattle.cic_rules.specs.Laws.{HasAll, Tells}
+use Rattle.cic_rules.proofs.NamesLaws.{names_may_grow}
 use Rattle.cic_rules.proofs.TellsLaws.{tells_pure, tells_stop, tells_bind, tells_step, tells_if, tells_require, tells_some, tells_within}
 use Rattle.cic_rules.proofs.UsedLaws.{union_first, union_second, names_union}
 use Rattle.cic_soundness.specs.Laws.{Fits, IsKnown, TypesAreSound, SortsAreSound, ChecksAreSound}
@@ -217,3 +216,9 @@ pub checks_are_sound : ChecksAreSound
 checks_are_sound env calls ctx t wanted =
     check_tells env (whnf_at env true calls) (conv_at env calls) (infer_at env calls)
     (λ c u. reduction_is_sound env true calls c u) (λ c m u v. conversion_is_sound env calls c m u v) (λ c u. types_told env calls c u) ctx t wanted
+
+-- what is known of a term, over its names together with those of a context that is well formed
+pub over_both : (env : List Slot) (ctx : List Hyp) (t ty : Tree) (used names : List ℕ) → IsKnown env ctx t ty used → WfContext env names ctx →
+    HasType env (union used names) ctx t ty
+over_both env ctx t ty used names h formed =
+    h.derived (union used names) (union_first used names) (names_may_grow.formed env names (union used names) ctx (union_second used names) formed)

@@ -1,11 +1,11 @@
 -- Iota looks at the value alone, not at what stood in its place.
-use Rattle.std.specs.Prelude.{◌≡◌, ℕ, zero, suc, ◌+◌, ◌<◌, ◌≤◌, ◌==◌, List, [], ◌∷◌, length, take, drop, Bool, true, false, Option, Some, None, slice_get, if◌then◌else◌, refl}
+use Rattle.std.specs.Prelude.{◌≡◌, ℕ, zero, suc, ◌+◌, ◌<◌, ◌≤◌, ◌==◌, List, [], ◌∷◌, length, take, drop, Option, Some, None, slice_get, if◌then◌else◌, refl}
 use Rattle.std.proofs.Common.{arith, ap, sym, ◌∙◌}
-use Rattle.core_term.specs.Tree.{Tree, Constant}
+use Rattle.core_term.specs.Tree.{Tree}
 use Rattle.term_spine.specs.Spine.{head_of, arguments_of, apply_all, count_products}
 use Rattle.cic_rules.specs.declared.decls.Ctor.{Ctor}
 use Rattle.cic_rules.specs.declared.env.Slot.{Slot}
-use Rattle.cic_rules.specs.Families.{Family, count_params, count_ctors, count_indices, count_fixed, major_index, eliminator_of, constructor_of, value_among, major_premise, replace_major, newest_first, case_applied, iota_result, iota_case, iota_ctor, iota_index, iota_family, iota}
+use Rattle.cic_rules.specs.Families.{Family, count_params, count_fixed, major_index, eliminator_of, constructor_of, value_among, major_premise, replace_major, newest_first, case_applied, iota_result, iota_case, iota_ctor, iota_index, iota_family, iota}
 
 take_replaced : (k at : ℕ) (args : List Tree) (w : Tree) → k ≤ at → take k (replace_major args at w) ≡ take k args
 take_replaced zero at args w le = refl
@@ -40,11 +40,11 @@ module _ (f : Family) (head : Tree) (args : List Tree) (w : Tree) where
       iota_result f head (replace_major args (major_index f.decl) w) c case ctor_args ≡ iota_result f head args c case ctor_args
   result_replaced c case ctor_args =
       let few : take (count_params f.decl) (replace_major args (major_index f.decl) w) ≡ take (count_params f.decl) args =
-          take_replaced (count_params f.decl) (major_index f.decl) args w (omega arith) in
+      take_replaced (count_params f.decl) (major_index f.decl) args w (omega arith) in
       let fixed : take (count_fixed f.decl) (replace_major args (major_index f.decl) w) ≡ take (count_fixed f.decl) args =
-          take_replaced (count_fixed f.decl) (major_index f.decl) args w (omega arith) in
+      take_replaced (count_fixed f.decl) (major_index f.decl) args w (omega arith) in
       let later : drop (major_index f.decl + 1) (replace_major args (major_index f.decl) w) ≡ drop (major_index f.decl + 1) args =
-          drop_replaced (major_index f.decl + 1) (major_index f.decl) args w (omega arith) in
+      drop_replaced (major_index f.decl + 1) (major_index f.decl) args w (omega arith) in
       ap (λ x. apply_all (case_applied (count_params f.decl) f.place (apply_all head (take (count_fixed f.decl) (replace_major args (major_index f.decl) w))) case (newest_first (take (count_params f.decl) (replace_major args (major_index f.decl) w)) []) c.ty ctor_args) x) later
       ∙ ap (λ x. apply_all (case_applied (count_params f.decl) f.place (apply_all head x) case (newest_first (take (count_params f.decl) (replace_major args (major_index f.decl) w)) []) c.ty ctor_args) (drop (major_index f.decl + 1) args)) fixed
       ∙ ap (λ x. apply_all (case_applied (count_params f.decl) f.place (apply_all head (take (count_fixed f.decl) args)) case (newest_first x []) c.ty ctor_args) (drop (major_index f.decl + 1) args)) few

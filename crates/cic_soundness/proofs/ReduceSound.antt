@@ -1,9 +1,9 @@
 -- Weak head reduction gives a term that is convertible.
-use Rattle.std.specs.Prelude.{◌≡◌, ℕ, zero, suc, ◌+◌, List, [], ◌∷◌, Bool, true, false, Option, Some, None, if◌then◌else◌, refl}
-use Rattle.std.proofs.Common.{subst, ap, sym}
+use Rattle.std.specs.Prelude.{◌≡◌, ℕ, zero, suc, List, ◌∷◌, Bool, true, false, Option, Some, None, if◌then◌else◌, refl}
+use Rattle.std.proofs.Common.{subst, sym}
 use Rattle.base_core.specs.declared.refusals.Stop.TheVariants.{Out}
 use Rattle.base_core.specs.declared.refusals.Limit.TheVariants.{DepthLimit}
-use Rattle.core_term.specs.Tree.{Tree, Var, Sorted, Constant, Prod, Lam, LetIn, App, size_of}
+use Rattle.core_term.specs.Tree.{Tree, Var, Constant, Lam, LetIn, App}
 use Rattle.core_term.specs.Places.{subst_of}
 use Rattle.term_spine.specs.Spine.{head_of, arguments_of, apply_all}
 use Rattle.term_spine.proofs.SpineFacts.{whole_applied}
@@ -65,14 +65,14 @@ module _ (env : List Slot) (ctx : List Hyp) where
   iota_conv h args major value to m conv e =
       let r = iota_replaced env h args major value m.premise in
       let moved : Conv env ctx (apply_all h args) (apply_all h (replace_major args r.at value)) =
-          conv_apply_all env ctx h h args (replace_major args r.at value) (Refl ctx h) (replace_conv env ctx args r.at major value r.there conv) in
+      conv_apply_all env ctx h h args (replace_major args r.at value) (Refl ctx h) (replace_conv env ctx args r.at major value r.there conv) in
       let premise : major_premise env (Constant m.global) (replace_major args r.at value) ≡ Some value =
-          subst (λ x. major_premise env x (replace_major args r.at value) ≡ Some value) m.is r.premise in
+      subst (λ x. major_premise env x (replace_major args r.at value) ≡ Some value) m.is r.premise in
       let gives : iota env (Constant m.global) (replace_major args r.at value) value ≡ Some to =
-          subst (λ x. iota env x (replace_major args r.at value) value ≡ Some to) m.is (r.gives to e) in
+      subst (λ x. iota env x (replace_major args r.at value) value ≡ Some to) m.is (r.gives to e) in
       let last : Conv env ctx (apply_all h (replace_major args r.at value)) to =
-          subst (λ x. Conv env ctx (apply_all x (replace_major args r.at value)) to) (sym m.is)
-          (Iota ctx m.global (replace_major args r.at value) value to premise gives) in
+      subst (λ x. Conv env ctx (apply_all x (replace_major args r.at value)) to) (sym m.is)
+      (Iota ctx m.global (replace_major args r.at value) value to premise gives) in
       Trans moved last
 
   whole : (t u : Tree) → Conv env ctx (apply_all (head_of t) (arguments_of t)) u → Conv env ctx t u

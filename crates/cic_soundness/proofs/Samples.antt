@@ -1,16 +1,17 @@
 -- The laws at worked values: their premises can be met, and what they tell is so.
-use Rattle.std.specs.Prelude.{◌≡◌, ℕ, List, [], ◌∷◌, ◌++◌, Bool, true, false, Some, IsTrue, refl}
+use Rattle.std.specs.Prelude.{List, [], ◌∷◌, ◌++◌, true, Some, refl}
 use Rattle.std.proofs.Common.{arith, ap}
 use Rattle.core_term.specs.declared.sorts.Sort.TheVariants.{PropSort, SetSort}
-use Rattle.core_term.specs.Tree.{Tree, Var, Sorted, Constant, Prod, Lam, LetIn, App}
+use Rattle.core_term.specs.Tree.{Var, Sorted, Prod, Lam, LetIn, App}
 use Rattle.cic_rules.specs.declared.decls.Decl.TheVariants.{Assume, Define}
 use Rattle.cic_rules.specs.declared.entries.EntryKind.TheVariants.{Defined}
 use Rattle.cic_rules.specs.declared.env.Slot.{Slot}
 use Rattle.cic_rules.specs.declared.judge.Mode.TheVariants.{Same, Below}
+use Rattle.cic_rules.specs.Contexts.{plain_hyp}
 use Rattle.cic_rules.specs.Environments.{own_slot}
-use Rattle.cic_rules.specs.Derive.{Conv, Empty, HasType}
+use Rattle.cic_rules.specs.Derive.{Conv, Empty, Assumes, HasType, OfGlobal}
 use Rattle.cic_rules.specs.WellFormed.{WfEnv, Nothing}
-use Rattle.cic_rules.specs.Grounded.{is_assumption, axioms, IsGrounded}
+use Rattle.cic_rules.specs.Grounded.{IsGrounded}
 use Rattle.cic_rules.specs.Runs.{repeat}
 use Rattle.cic_rules.specs.Reduce.{whnf_at}
 use Rattle.cic_rules.specs.Convert.{conv_at, blocker_at}
@@ -20,7 +21,7 @@ use Rattle.cic_rules.proofs.Samples.{X, A, ASSUMED, infer_identity}
 use Rattle.cic_soundness.specs.Laws.{Fits}
 use Rattle.cic_soundness.proofs.ReduceSound.{reduction_is_sound}
 use Rattle.cic_soundness.proofs.ConvSound.{conversion_is_sound}
-use Rattle.cic_soundness.proofs.InferSound.{types_are_sound, sorts_are_sound, checks_are_sound}
+use Rattle.cic_soundness.proofs.InferSound.{types_are_sound, sorts_are_sound, checks_are_sound, over_both}
 use Rattle.cic_soundness.proofs.Growth.{derivations_stay}
 use Rattle.cic_soundness.proofs.DeclareSound.{declare_keeps_form}
 use Rattle.cic_soundness.proofs.GroundedSound.{entries_are_grounded}
@@ -54,7 +55,15 @@ assumed_checked : HasType ASSUMED (0 ∷ []) [] A (Sorted SetSort)
 unfolding repeat whnf_at conv_at infer_at blocker_at
 assumed_checked = ((checks_are_sound ASSUMED 2000 [] A (Sorted SetSort)).tells 9 (0 ∷ []) refl).derived (0 ∷ []) (λ c h. h) Empty
 
--- .. and in a longer environment
+-- x in the context of x : A, over the names of both
+variable_typed : HasType ASSUMED (0 ∷ []) (plain_hyp X A ∷ []) (Var 0) A
+unfolding infer_at
+variable_typed =
+    over_both ASSUMED (plain_hyp X A ∷ []) (Var 0) A [] (0 ∷ [])
+    ((types_are_sound ASSUMED 2000 (plain_hyp X A ∷ []) (Var 0)).tells 9 (inferred A []) refl)
+    (Assumes X PropSort Empty (OfGlobal 0 (Sorted PropSort) Empty refl refl))
+
+-- the identity in a longer environment
 identity_stays : HasType (ASSUMED ++ ASSUMED) (0 ∷ []) [] (Lam X A (Var 0)) (Prod X A A)
 identity_stays = derivations_stay.derives ASSUMED ASSUMED (0 ∷ []) (0 ∷ []) [] (Lam X A (Var 0)) (Prod X A A) (λ c h. h) identity_typed
 
