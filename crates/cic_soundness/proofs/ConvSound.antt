@@ -59,7 +59,7 @@ fits_through env ctx Same t u v w h k f = Trans h (Trans f (Sym k))
 fits_through env ctx Below t u v w h k f = CumulTrans (Equal h) (CumulTrans f (Equal (Sym k)))
 
 -- a side with its blocker replaced
-pub IsReplaced : List Slot → List Hyp → Tree → Option Blocker → Type 0
+IsReplaced : List Slot → List Hyp → Tree → Option Blocker → Type 0
 IsReplaced env ctx t None = Unit {0}
 IsReplaced env ctx t (Some b) = Conv env ctx t b.replaced
 

@@ -138,7 +138,7 @@ with_itself : (m c : ℕ) (ps : List ℕ) → IsTrue (has ps c) → IsTrue (has 
 with_itself m c [] h = cc
 with_itself m c (p ∷ ps) h = with_itself_by (p == m) (p == c) (m == c) m c p ps refl refl refl (with_itself m c ps) h
 
-pub before_by : (b : Bool) (m p c : ℕ) (more : Bool) → (p == c) ≡ b → p < m → (more ≡ true → c < m) → (if b then true else more) ≡ true → c < m
+before_by : (b : Bool) (m p c : ℕ) (more : Bool) → (p == c) ≡ b → p < m → (more ≡ true → c < m) → (if b then true else more) ≡ true → c < m
 before_by true m p c more e lt rest h = let same : p ≡ c = grind (arith, nat_tests, e) in omega (arith, same, lt)
 before_by false m p c more e lt rest h = rest h
 

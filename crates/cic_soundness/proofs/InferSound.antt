@@ -153,7 +153,7 @@ module _ (env : List Slot) (whnf : List Hyp → Tree → Run Tree) (conv : List 
   as_sort_tells ctx t (Sorted s) used h = tells_pure (inferred_sort s used) h
   as_sort_tells ctx t ty used h = tells_bind (whnfs ctx ty) (λ reduced k. must_sort_tells ctx t ty used reduced h k)
 
-  pub sort_tells : (ctx : List Hyp) (a : Tree) → Tells (sort_of whnf conv infer ctx a) (λ s. IsKnown env ctx a (Sorted s.sort) s.used)
+  sort_tells : (ctx : List Hyp) (a : Tree) → Tells (sort_of whnf conv infer ctx a) (λ s. IsKnown env ctx a (Sorted s.sort) s.used)
   sort_tells ctx a = tells_bind (infers ctx a) (λ i h. as_sort_tells ctx a i.ty i.used h)
 
   must_arrow_tells : (ctx : List Hyp) (t ty : Tree) (used : List ℕ) (reduced : Tree) → IsKnown env ctx t ty used → Conv env ctx ty reduced →
@@ -167,7 +167,7 @@ module _ (env : List Slot) (whnf : List Hyp → Tree → Run Tree) (conv : List 
   as_arrow_tells ctx t (Prod n a b) used h = tells_pure (arrow a b used) (record { name = n; known = h })
   as_arrow_tells ctx t ty used h = tells_bind (whnfs ctx ty) (λ reduced k. must_arrow_tells ctx t ty used reduced h k)
 
-  pub check_tells : (ctx : List Hyp) (t wanted : Tree) → Tells (check whnf conv infer ctx t wanted) (λ used. IsKnown env ctx t wanted used)
+  check_tells : (ctx : List Hyp) (t wanted : Tree) → Tells (check whnf conv infer ctx t wanted) (λ used. IsKnown env ctx t wanted used)
   check_tells ctx t wanted =
       tells_bind (infers ctx t) (λ i h. tells_step (spend (compare_cost i.ty wanted)) (tells_if (same_tree i.ty wanted)
       (λ e. tells_pure i.used (same_known env ctx t i.ty wanted i.used h e))
