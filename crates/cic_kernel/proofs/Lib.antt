@@ -1,3 +1,4 @@
 pub mod CallLaws
 pub mod DeclareCalls
 pub mod UniteLaws
+pub mod SoundLaws

@@ -6,4 +6,4 @@ mod inference;
 mod kernel;
 mod names;
 
-pub use kernel::{Kernel, check};
+pub use kernel::{Kernel, check, declare, infer};
