@@ -1,0 +1,3 @@
+pub mod FuelOfMatch
+pub mod Lowerings
+pub mod ValuesKept
