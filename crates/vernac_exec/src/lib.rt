@@ -2,12 +2,17 @@
 //! Today that is every command that needs no proof.
 #![tactic(auto)]
 
+mod axioms;
 mod deed;
 mod diagnostics;
 mod laws;
+mod outline;
+mod prover_laws;
 mod state;
 
+pub use axioms::axioms;
 pub use deed::Deed;
 pub use diagnostics::diagnostics_of;
 pub use laws::{law_of_states, law_of_units};
+pub use prover_laws::law_of_prover;
 pub use state::{ProverState, Row};
