@@ -1,5 +1,5 @@
 -- What holds of every prover, of this one.
-use Rattle.std.proofs.Common.{◌≡◌, ℕ, ◌+◌, ◌≤◌, List, [], ◌∷◌, length, fold, subst, arith, All}
+use Rattle.std.proofs.Common.{◌≡◌, ℕ, ◌+◌, ◌^◌, ◌<◌, ◌≤◌, List, [], ◌∷◌, length, fold, subst, arith, All}
 use Rattle.std.specs.Str.{IsUtf8}
 use Rattle.std.proofs.lemmas.Str.{IsCharBoundary-start, IsCharBoundary-end}
 use Rattle.std.proofs.lemmas.List.Elements.{All-push}
@@ -30,8 +30,8 @@ told-placed text (Refused code) utf8 =
     (record { severe = omega arith; mild = omega arith; ordered = omega arith; from_cut = IsCharBoundary-start text utf8; to_cut = IsCharBoundary-end text })
 told-placed text (Declares name sort) utf8 = no_diags text
 
-pub diagnosed-placed : (m : Declared) (s : Sentence) → IsUtf8 s.text → IsFit s.kind s.text → All (IsDiag s.text) (diagnosed m s)
-diagnosed-placed m s utf8 fit = told-placed s.text (verdict m s.kind s.text) utf8
+pub diagnosed-placed : (m : Declared) (s : Sentence) → IsUtf8 s.text → IsFit s.kind s.text → length s.text < 2 ^ 32 → All (IsDiag s.text) (diagnosed m s)
+diagnosed-placed m s utf8 fit short = told-placed s.text (verdict m s.kind s.text) utf8
 
 -- the state after so many sentences counts no more, and declares by those
 record IsAfter (n : ℕ) (m : Declared) : Type 0 where

@@ -1,12 +1,11 @@
 //! The trait of provers: one sentence at a time.
 ghost use Rattle.std.specs.Prelude.{◌≡◌, ℕ, ◌+◌, ◌^◌, ◌<◌, ◌≤◌, Option, List, All, length, IfOk, IfSome, MatchResult};
-ghost use Rattle.std.specs.Str.{IsUtf8};
 ghost use Rattle.base_core.specs.Fit.{IsFit};
 ghost use Rattle.base_core.specs.declared.limits.TheConstants.{COST_LIMIT};
 ghost use Rattle.prover_iface.specs.Sentences.{Sentence, sentence};
 ghost use Rattle.prover_iface.specs.Meanings.{Meanings, state_behind};
 ghost use Rattle.prover_iface.specs.Exec.{Answers, Works, Worked};
-ghost use Rattle.prover_iface.specs.Laws.{IsDiag, IsPast};
+ghost use Rattle.prover_iface.specs.Laws.{TellsWithin, IsPast};
 
 use crate::{DiagList, GoalsView, OutlineList};
 use base_core::{Kind, NoMem, Steps};
@@ -79,8 +78,8 @@ pub trait Prover: Drop {
     /// No sentence costs more than that.
     ghost bounded: { (m : Meaning) (s : Sentence) → means.cost m s ≤ COST_LIMIT };
 
-    /// What is told of a sentence stands at whole characters of it.
-    ghost placed: { (m : Meaning) (s : Sentence) → IsUtf8 s.text → IsFit s.kind s.text → All (IsDiag s.text) (means.diagnosed m s) };
+    /// What is told of a sentence stands at whole characters of it, where its offsets can be told.
+    ghost placed: { TellsWithin means.diagnosed };
 
     /// The numbers that are answered are those of sentences before.
     ghost opened_before: { (ss : List Sentence) → IfSome (means.opened (state_behind means ss)) (λ n. n < length ss) };

@@ -43,7 +43,7 @@ impl Prover for CountProver {
 
     ghost bounded = { λ _ _. Prim.omega arith };
 
-    ghost placed = { λ _ _ _ _ _ _ h. absurd (Prim.omega arith) };
+    ghost placed = { λ _ _ _ _ _ _ _ h. absurd (Prim.omega arith) };
 
     ghost opened_before = { λ _. tt };
 
