@@ -1,5 +1,5 @@
 -- Places are looked at from the greatest down, and each lists its axioms once.
-use Rattle.std.proofs.Common.{◌≡◌, ℕ, zero, suc, ◌+◌, ◌<◌, ◌≤◌, ◌==◌, max, nat_le, nat_lt, List, [], ◌∷◌, ◌++◌, length, reverse, fold, Bool, true, false, cond, refl, sym, ◌∙◌, ap, subst, arith, append_assoc, append-nil, All}
+use Rattle.std.proofs.Common.{◌≡◌, ℕ, zero, suc, ◌+◌, ◌<◌, ◌≤◌, ◌==◌, max, nat_le, nat_lt, List, [], ◌∷◌, ◌++◌, length, get_or, drop, reverse, fold, Bool, true, false, cond, refl, sym, ◌∙◌, ap, subst, arith, append_assoc, append-nil, add-one, drop-cons, All}
 use Rattle.std.specs.Ordering.{nat_cmp, match_ordering}
 use Rattle.std.specs.declared.cmp.Ordering.{Ordering}
 use Rattle.std.specs.declared.cmp.Ordering.TheVariants.{Less, Equal, Greater}
@@ -76,17 +76,17 @@ module _ (env : List Slot) where
   drop_by : (b : Bool) (x y : List ℕ) → b ≡ false → cond b x y ≡ y
   drop_by b x y e = rw e refl
 
-  mutual
-    lower_by : (b : Bool) (p m : ℕ) (us : List ℕ) → nat_le m p ≡ b → m ≤ suc p → Under m us → reached env (suc p) us ≡ reached env m us
-    lower_by true p m us is le under =
-        let low : m ≤ p = grind (arith, nat_tests, is) in
-        drop_by (has us p) (reached env p (union us (used_at env p)) ++ p ∷ []) (reached env p us) (under p low) ∙ lower p m us low under
-    lower_by false p m us is le under =
-        let same : suc p ≡ m = grind (arith, nat_tests, is, le) in ap (λ k. reached env k us) same
+  lower_by : (b : Bool) (p m : ℕ) (us : List ℕ) → nat_le m p ≡ b → m ≤ suc p → Under m us → (m ≤ p → reached env p us ≡ reached env m us) →
+      reached env (suc p) us ≡ reached env m us
+  lower_by true p m us is le under more =
+      let low : m ≤ p = grind (arith, nat_tests, is) in
+      drop_by (has us p) (reached env p (union us (used_at env p)) ++ p ∷ []) (reached env p us) (under p low) ∙ more low
+  lower_by false p m us is le under more =
+      let same : suc p ≡ m = grind (arith, nat_tests, is, le) in ap (λ k. reached env k us) same
 
-    lower : (p m : ℕ) (us : List ℕ) → m ≤ p → Under m us → reached env p us ≡ reached env m us
-    lower zero m us le under = let same : 0 ≡ m = omega (arith, le) in ap (λ k. reached env k us) same
-    lower (suc p) m us le under = lower_by (nat_le m p) p m us refl le under
+  lower : (p m : ℕ) (us : List ℕ) → m ≤ p → Under m us → reached env p us ≡ reached env m us
+  lower zero m us le under = let same : 0 ≡ m = omega (arith, le) in ap (λ k. reached env k us) same
+  lower (suc p) m us le under = lower_by (nat_le m p) p m us refl le under (λ low. lower p m us low under)
 
 bound_step : (k q : ℕ) (more : Bool) → suc k ≤ q → more ≡ false → cond (k == q) true more ≡ false
 bound_step k q more le e = grind (arith, nat_tests, le, e)
@@ -145,10 +145,11 @@ either_way false false = refl
 
 assumptions_last : (env : List Slot) (ps : List ℕ) (at : ℕ) → assumptions env (ps ++ at ∷ []) ≡ assumptions env ps ++ assumptions env (at ∷ [])
 assumptions_last env [] at = refl
-assumptions_last env (p ∷ ps) at = by (is_assumption env p) (assumptions_last env ps at) where
-  by : (b : Bool) {all front back : List ℕ} → all ≡ front ++ back → cond b (p ∷ all) all ≡ cond b (p ∷ front) front ++ back
-  by true e = ap (λ xs. p ∷ xs) e
-  by false e = e
+assumptions_last env (p ∷ ps) at =
+    by (is_assumption env p) (assumptions env (ps ++ at ∷ [])) (assumptions env ps) (assumptions env (at ∷ [])) (assumptions_last env ps at) where
+  by : (b : Bool) (all front back : List ℕ) → all ≡ front ++ back → cond b (p ∷ all) all ≡ cond b (p ∷ front) front ++ back
+  by true all front back e = ap (λ xs. p ∷ xs) e
+  by false all front back e = e
 
 -- what is listed already, and what those that wait will list
 abbrev pub IsListing : List Slot → ℕ → List ℕ → List ℕ → Type 0
@@ -214,3 +215,10 @@ no_length (w ∷ ws) e = absurd (omega (arith, e))
 pub listing_ends : (env : List Slot) (place : ℕ) (waiting found : List ℕ) → length waiting ≡ 0 → IsListing env place waiting found →
     reverse found ≡ axioms env place
 listing_ends env place waiting found e h = subst (λ ws. IsListing env place ws found) (no_length waiting e) h
+
+-- one of several places waits too
+pub one_waits : (places waiting new all : List ℕ) (i : ℕ) → i < length places → new ≡ insert_key nat_cmp waiting (get_or places i 0) →
+    with_all waiting (drop i places) ≡ all → with_all new (drop (i + 1) places) ≡ all
+one_waits places waiting new all i within e h =
+    ap (λ ws. with_all ws (drop (i + 1) places)) e ∙ ap (λ k. with_all (insert_key nat_cmp waiting (get_or places i 0)) (drop k places)) (add-one i)
+    ∙ ap (with_all waiting) (sym (drop-cons places i 0 within)) ∙ h

@@ -37,9 +37,7 @@ pub stands_give : {A : Type 0} {P : ℕ → ℕ → Type 0} (answer : Result A S
 stands_give answer holds = record { stands = λ left stop e. holds stop e }
 
 pub stands_stop : {A : Type 0} {P : ℕ → ℕ → Type 0} (stop : Stop) → StopsAt P stop → Stands {A = A} P (give (Err stop))
-stands_stop {A = A} {P = P} stop holds = record { stands = λ left other e. by other e } where
-  by : (other : Stop) → Err {A = A} stop ≡ Err other → StopsAt P other
-  by other e = let same : stop ≡ other = cc in subst (StopsAt P) same holds
+stands_stop {P = P} stop holds = record { stands = λ left other e. let same : stop ≡ other = cc in subst (StopsAt P) same holds }
 
 pub stands_pure : {A : Type 0} {P : ℕ → ℕ → Type 0} (x : A) → Stands P (pure x)
 stands_pure x = record { stands = λ left stop e. cc }

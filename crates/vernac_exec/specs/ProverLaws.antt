@@ -1,19 +1,15 @@
 -- What is asked of a prover: what is told of a sentence stands in it, and what a state declares is by sentences before.
-use Rattle.std.specs.Prelude.{ℕ, ◌^◌, ◌<◌, List, All, fold, length}
-use Rattle.std.specs.Str.{IsUtf8}
-use Rattle.base_core.specs.Fit.{IsFit}
+use Rattle.std.specs.Prelude.{List, All, fold, length}
 use Rattle.prover_iface.specs.Sentences.{Sentence}
-use Rattle.prover_iface.specs.Laws.{IsDiag, IsPast}
+use Rattle.prover_iface.specs.Laws.{TellsWithin, IsPast}
 use Rattle.cic_rules.specs.declared.env.Slot.{Slot}
-use Rattle.vernac_exec.specs.declared.state.ProverState.{ProverState}
 use Rattle.vernac_exec.specs.Exec.{after, diagnosed}
 use Rattle.vernac_exec.specs.Outline.{outline_of}
 use Rattle.vernac_exec.specs.States.{over}
 
 -- what is told of a sentence stands at whole characters of it
 abbrev pub DiagsArePlaced : Type 0
-DiagsArePlaced =
-    (m : ProverState) (s : Sentence) → IsUtf8 s.text → IsFit s.kind s.text → length s.text < 2 ^ 32 → All (IsDiag s.text) (diagnosed m s)
+DiagsArePlaced = TellsWithin diagnosed
 
 -- behind so many sentences, from a state before any, each declaration is by one of them
 abbrev pub RowsArePast : Type 0

@@ -5,14 +5,15 @@
 mod axioms;
 mod deed;
 mod diagnostics;
+mod exec;
 mod laws;
 mod outline;
 mod prover_laws;
 mod state;
 
-pub use axioms::axioms;
 pub use deed::Deed;
 pub use diagnostics::diagnostics_of;
+pub use exec::exec_sentence;
 pub use laws::{law_of_states, law_of_units};
 pub use prover_laws::law_of_prover;
 pub use state::{ProverState, Row};
