@@ -8,3 +8,4 @@ pub mod StandsOfElab
 pub mod StandsOfSentences
 pub mod ProverLaws
 pub mod ListedAxioms
+pub mod ShownRows

@@ -147,9 +147,9 @@ assumptions_last : (env : List Slot) (ps : List ℕ) (at : ℕ) → assumptions 
 assumptions_last env [] at = refl
 assumptions_last env (p ∷ ps) at =
     by (is_assumption env p) (assumptions env (ps ++ at ∷ [])) (assumptions env ps) (assumptions env (at ∷ [])) (assumptions_last env ps at) where
-  by : (b : Bool) (all front back : List ℕ) → all ≡ front ++ back → cond b (p ∷ all) all ≡ cond b (p ∷ front) front ++ back
-  by true all front back e = ap (λ xs. p ∷ xs) e
-  by false all front back e = e
+      by : (b : Bool) (all front back : List ℕ) → all ≡ front ++ back → cond b (p ∷ all) all ≡ cond b (p ∷ front) front ++ back
+      by true all front back e = ap (λ xs. p ∷ xs) e
+      by false all front back e = e
 
 -- what is listed already, and what those that wait will list
 abbrev pub IsListing : List Slot → ℕ → List ℕ → List ℕ → Type 0
@@ -165,9 +165,9 @@ module _ (env : List Slot) (before : UsesBefore env) where
       subst (λ ws. IsListing env place ws []) (sym e)
       (append-nil (assumptions env (reached env (bound_of begun) begun))
       ∙ ap (assumptions env) (sym (lower env place (bound_of begun) begun few (under_bound begun)) ∙ same_reached env place begun used all)) where
-    by : (b : Bool) → cond b true false ≡ b
-    by true = refl
-    by false = refl
+        by : (b : Bool) → cond b true false ≡ b
+        by true = refl
+        by false = refl
 
   module _ (old rest new : List ℕ) (at : ℕ) (popped : old ≡ rest ++ at ∷ []) (greatest : All (λ q. IsLtBy nat_cmp q at) rest)
       (grown : new ≡ with_all rest (used_at env at)) where

@@ -27,7 +27,7 @@ use Rattle.cic_rules.specs.Runs.{Run}
 use Rattle.cic_rules.specs.Steps.{TooLarge, step_then, refuse_step}
 use Rattle.elaborator.specs.declared.binders.Binding.{Binding}
 use Rattle.elaborator.specs.declared.binders.Binding.TheVariants.{Product, Function}
-use Rattle.elaborator.specs.Names.{token, bound_name, constant_at, global, meaning, name, index_of, declared_type}
+use Rattle.elaborator.specs.Names.{token, unnamed, bound_name, constant_at, global, meaning, name, index_of, declared_type}
 use Rattle.elaborator.specs.Parts.{sized, applied, times, number_of, successors, numeral, type_at, bind, closed, then_open, opened}
 use Rattle.elaborator.specs.Arrangement.{has_named, product_of, free_seats, seat_at, take_by, take_seat, seated, positions, any_taken, filled, order_by, unseated, order_if_declared, order, picked}
 use Rattle.elaborator.specs.Rows.{arrow, bound, binding, defined, typed_let, untyped_let, operation, negation, equation, named_application, application}
@@ -73,12 +73,8 @@ module _ (P : ℕ → ℕ → Type 0) where
 
     pub behind_groups : (gs : GroupList) (rest : List Token) → AreAt P (groups gs rest) → AreAt P rest
     behind_groups NoGroup rest at = at
-    behind_groups (Group p ns q t r after) rest at = behind_groups after rest (behind_group p ns q t r after rest at)
-
-    -- .. the first group
-    behind_group : (p : TokenPlace) (ns : List BoundName) (q : TokenPlace) (t : Term) (r : TokenPlace) (after : GroupList) (rest : List Token) →
-        AreAt P (groups (Group p ns q t r after) rest) → AreAt P (groups after rest)
-    behind_group p ns q t r after rest at =
+    behind_groups (Group p ns q t r after) rest at =
+        behind_groups after rest
         (behind t (symbol (codes ")") r ∷ groups after rest) (behind_names ns (symbol (codes ":") q ∷ spells t (symbol (codes ")") r ∷ groups after rest)) at.1).1).1
 
     pub behind_annotation : (a : Annotation) (rest : List Token) → AreAt P (annotation a rest) → AreAt P rest
@@ -211,7 +207,7 @@ module _ (P : ℕ → ℕ → Type 0) where
   at_arrow : (ctx : List Hyp) {left : Run Tree} {right : List Hyp → Run Tree} → Stands P left → ((inner : List Hyp) → Stands P (right inner)) →
       Stands P (arrow ctx left right)
   at_arrow ctx one two =
-      stands_bind one (λ a. stands_bind (stands_hyp ctx _) (λ inner. stands_bind (two inner) (λ b. stands_step_of P (sized _) (at_sized _))))
+      stands_bind one (λ a. stands_bind (stands_hyp ctx _) (λ inner. stands_bind (two inner) (λ b. stands_step_of P (sized (Prod unnamed a b)) (at_sized (Prod unnamed a b)))))
 
   pub at_binding : (kind : Binding) (ctx : List Hyp) {bs : Run (List Hyp)} {body : List Hyp → Run Tree} → Stands P bs →
       ((inner : List Hyp) → Stands P (body inner)) → Stands P (binding kind ctx bs body)
