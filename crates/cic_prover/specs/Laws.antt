@@ -1,5 +1,5 @@
 -- What holds of every prover, of this one.
-use Rattle.std.specs.Prelude.{ℕ, ◌≤◌, List, length, All}
+use Rattle.std.specs.Prelude.{ℕ, ◌≤◌, List, [], length, All}
 use Rattle.base_core.specs.declared.limits.TheConstants.{COST_LIMIT}
 use Rattle.prover_iface.specs.Sentences.{Sentence}
 use Rattle.prover_iface.specs.Meanings.{state_behind}

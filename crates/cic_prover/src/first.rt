@@ -53,7 +53,10 @@ fn run_all<C: Ledger>(
 {
     let mut state = state;
     for span in spans {
-        state = run_span(alloc, &state, text, span, steps)?;
+        match run_span(alloc, &state, text, span, steps) {
+            Ok(next) => state = next,
+            Err(error) => return Err(error),
+        }
     }
     Ok(state)
 }

@@ -3,6 +3,7 @@ ghost use Rattle.std.specs.Prelude.{◌≡◌, ◌^◌, ◌<◌, length};
 ghost use Rattle.cic_prover.specs.Prelude.{prelude};
 
 /// The text of the prelude.
+#[tactic(auto, unfolding(crate::specs::Prelude::prelude))]
 pub fn prelude() -> &'static str
     ensures text { result.now ≡ prelude }
     ensures short { length result.now < 2 ^ 32 }
