@@ -1,11 +1,11 @@
 -- What holds of every prover, of this one.
-use Rattle.std.specs.Prelude.{ℕ, ◌≤◌, List, [], length, All}
+use Rattle.std.specs.Prelude.{◌≤◌, List, [], length, All}
 use Rattle.base_core.specs.declared.limits.TheConstants.{COST_LIMIT}
 use Rattle.prover_iface.specs.Sentences.{Sentence}
 use Rattle.prover_iface.specs.Meanings.{state_behind}
 use Rattle.prover_iface.specs.Laws.{TellsWithin, IsPast}
 use Rattle.vernac_exec.specs.declared.state.ProverState.{ProverState}
-use Rattle.vernac_exec.specs.Exec.{after, diagnosed, cost}
+use Rattle.vernac_exec.specs.Exec.{diagnosed, cost}
 use Rattle.vernac_exec.specs.Outline.{outline_of}
 use Rattle.vernac_exec.specs.States.{over}
 use Rattle.vernac_exec.proofs.UnitLaws.{costs_are_bounded}

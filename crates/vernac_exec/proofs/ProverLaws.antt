@@ -1,5 +1,5 @@
 -- What is told of a sentence stands in it, and what a state declares is by sentences before.
-use Rattle.std.proofs.Common.{◌≡◌, ℕ, ◌+◌, ◌-◌, ◌^◌, ◌<◌, ◌≤◌, min, List, [], ◌∷◌, ◌++◌, length, fold, map, Result, Ok, Err, refl, subst, arith, All}
+use Rattle.std.proofs.Common.{◌≡◌, ℕ, ◌+◌, ◌<◌, ◌≤◌, List, [], ◌∷◌, length, fold, map, Result, Ok, Err, refl, subst, arith, All}
 use Rattle.std.specs.Str.{IsUtf8}
 use Rattle.std.proofs.lemmas.Str.{IsCharBoundary-start, IsCharBoundary-end}
 use Rattle.std.proofs.lemmas.List.Elements.{All-nil, All-cons, All-push, All-map}
@@ -19,7 +19,7 @@ use Rattle.vernac_exec.specs.declared.state.ProverState.{ProverState}
 use Rattle.vernac_exec.specs.Diagnostics.{limit_code, error_at, answer_at, told_stop, told}
 use Rattle.vernac_exec.specs.States.{over, next_row, behind}
 use Rattle.vernac_exec.specs.Exec.{whole_run, after}
-use Rattle.vernac_exec.specs.Outline.{item, outline_of}
+use Rattle.vernac_exec.specs.Outline.{item}
 use Rattle.vernac_exec.specs.ProverLaws.{DiagsArePlaced, RowsArePast}
 use Rattle.vernac_exec.proofs.StandsLaws.{IsAt, StopsAt}
 use Rattle.vernac_exec.proofs.StandsOfSentences.{IsInside, sentence_stands}

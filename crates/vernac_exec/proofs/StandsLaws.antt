@@ -12,7 +12,6 @@ use Rattle.core_term.specs.Tree.{Tree, is_small}
 use Rattle.cic_rules.specs.declared.context.Hyp.{Hyp}
 use Rattle.cic_rules.specs.declared.entries.Entry.{Entry}
 use Rattle.cic_rules.specs.declared.env.Slot.{Slot}
-use Rattle.cic_rules.specs.Contexts.{extended}
 use Rattle.cic_rules.specs.Convert.{with_hyp}
 use Rattle.cic_rules.specs.Environments.{all_entered, entered, own_slot}
 use Rattle.cic_rules.specs.Runs.{Run, give, pure, out_of, refuse, and_then, ◌>>=◌, ◌>>◌, spend, check_size, require, forbid, some_or, Turn, Final, GoOn, next_turn, repeat, runs}

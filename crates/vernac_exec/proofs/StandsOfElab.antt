@@ -1,10 +1,10 @@
 -- The refusals of elaboration stand at tokens of the tree, or at the whole sentence.
-use Rattle.std.proofs.Common.{◌≡◌, ℕ, zero, suc, ◌^◌, ◌&&◌, nat_le, nat_lt, List, [], ◌∷◌, ◌++◌, length, take, codes, Bool, true, false, Option, Some, None, Result, Ok, Err, subst, bytes_eq, slice_get}
+use Rattle.std.proofs.Common.{◌≡◌, ℕ, zero, suc, ◌^◌, ◌&&◌, nat_le, nat_lt, List, [], ◌∷◌, ◌++◌, length, take, codes, Bool, true, false, Option, Some, None, Result, Ok, Err, subst, slice_get}
 use Rattle.std.specs.Prelude.{if◌then◌else◌}
 use Rattle.base_core.specs.declared.refusals.Stop.{Stop}
 use Rattle.base_core.specs.declared.refusals.Stop.TheVariants.{Out}
 use Rattle.base_core.specs.declared.refusals.Limit.TheVariants.{SizeLimit}
-use Rattle.base_core.specs.declared.refusal_codes.TheConstants.{UNKNOWN_NAME, NO_SUCH_ARGUMENT, ARGUMENT_TWICE, ARGUMENT_MISSING, NO_LEVEL}
+use Rattle.base_core.specs.declared.refusal_codes.TheConstants.{ARGUMENT_MISSING, NO_LEVEL}
 use Rattle.coq_syntax.specs.declared.token.Token.{Token}
 use Rattle.coq_syntax.specs.declared.words.TokenPlace.{TokenPlace}
 use Rattle.coq_syntax.specs.declared.words.Word.{Word}
@@ -20,7 +20,7 @@ use Rattle.term_spine.specs.Spine.{variables_of}
 use Rattle.cic_rules.specs.declared.context.Hyp.{Hyp}
 use Rattle.cic_rules.specs.declared.env.Slot.{Slot}
 use Rattle.cic_rules.specs.declared.judge.Inferred.{Inferred}
-use Rattle.cic_rules.specs.Contexts.{plain_hyp, defined_hyp}
+use Rattle.cic_rules.specs.Contexts.{plain_hyp}
 use Rattle.cic_rules.specs.Environments.{place_in}
 use Rattle.cic_rules.specs.Infer.{infer_at}
 use Rattle.cic_rules.specs.Runs.{Run}
@@ -29,11 +29,11 @@ use Rattle.elaborator.specs.declared.binders.Binding.{Binding}
 use Rattle.elaborator.specs.declared.binders.Binding.TheVariants.{Product, Function}
 use Rattle.elaborator.specs.Names.{token, unnamed, bound_name, constant_at, global, meaning, name, index_of, declared_type}
 use Rattle.elaborator.specs.Parts.{sized, applied, times, number_of, successors, numeral, type_at, bind, closed, then_open, opened}
-use Rattle.elaborator.specs.Arrangement.{has_named, product_of, free_seats, seat_at, take_by, take_seat, seated, positions, any_taken, filled, order_by, unseated, order_if_declared, order, picked}
-use Rattle.elaborator.specs.Rows.{arrow, bound, binding, defined, typed_let, untyped_let, operation, negation, equation, named_application, application}
+use Rattle.elaborator.specs.Arrangement.{has_named, product_of, free_seats, seat_at, take_by, take_seat, seated, positions, any_taken, filled, unseated, order_if_declared, order, picked}
+use Rattle.elaborator.specs.Rows.{arrow, bound, binding, defined, operation, negation, equation}
 use Rattle.elaborator.specs.Constructors.{applied_to_oldest, result_type, constructor_type}
 use Rattle.elaborator.specs.Elab.{elab, elab_arguments, open_binders, open_groups}
-use Rattle.vernac_exec.proofs.StandsLaws.{IsAt, StopsAt, Stands, StepAt, step_at_then, stands_give, stands_pure, stands_step_of, stands_if, stands_hyp, stands_bind}
+use Rattle.vernac_exec.proofs.StandsLaws.{StopsAt, Stands, StepAt, step_at_then, stands_give, stands_pure, stands_step_of, stands_if, stands_hyp, stands_bind}
 use Rattle.vernac_exec.proofs.StandsOfKernel.{at_infer}
 
 -- each of the tokens stands so

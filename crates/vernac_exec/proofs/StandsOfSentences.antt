@@ -2,12 +2,11 @@
 use Rattle.std.proofs.Common.{◌≡◌, ℕ, ◌+◌, ◌-◌, ◌^◌, ◌<◌, ◌≤◌, min, List, [], ◌∷◌, ◌++◌, length, get_or, codes, Bool, true, false, Option, Some, None, Result, Ok, Err, refl, sym, ◌∙◌, ap, subst, arith, length-append}
 use Rattle.std.specs.Prelude.{if◌then◌else◌}
 use Rattle.std.specs.Str.{IsUtf8, IsCharBoundary}
-use Rattle.std.proofs.lemmas.Str.{IsCharBoundary-start, IsCharBoundary-end}
-use Rattle.base_core.specs.Fit.{IsFit, EndsInPeriod}
+use Rattle.std.proofs.lemmas.Str.{IsCharBoundary-end}
+use Rattle.base_core.specs.Fit.{IsFit}
 use Rattle.base_core.specs.declared.kind.Kind.{Kind}
 use Rattle.base_core.specs.declared.kind.Kind.TheVariants.{Plain, Bullet, BraceOpen, BraceClose, Unfinished}
 use Rattle.base_core.specs.declared.refusals.Place.{Place}
-use Rattle.base_core.specs.declared.refusals.Place.TheVariants.{Part}
 use Rattle.base_core.specs.declared.refusals.Stop.{Stop}
 use Rattle.base_core.specs.declared.refusals.Stop.TheVariants.{Refused}
 use Rattle.base_core.specs.declared.refusal_codes.TheConstants as code
@@ -47,11 +46,10 @@ use Rattle.cic_rules.specs.declared.env.Slot.{Slot}
 use Rattle.cic_rules.specs.Environments.{is_taken}
 use Rattle.cic_rules.specs.Eliminators.{type_of_decl}
 use Rattle.cic_rules.specs.Inductive.{has_twice, any_taken, assumed_type}
-use Rattle.cic_rules.specs.Runs.{Ran, Run, and_then}
+use Rattle.cic_rules.specs.Runs.{and_then}
 use Rattle.elaborator.specs.declared.binders.Binding.{Binding}
 use Rattle.elaborator.specs.declared.binders.Binding.TheVariants.{Product, Function}
 use Rattle.elaborator.specs.Parts.{closed}
-use Rattle.vernac_exec.specs.declared.deed.Deed.{Deed}
 use Rattle.vernac_exec.specs.declared.deed.Deed.TheVariants.{Declares, Answers}
 use Rattle.vernac_exec.specs.Families.{ctor, family, written_names, elab_constructors}
 use Rattle.vernac_exec.specs.Commands.{judgement_text, declare_as, assume, elab_over, elab_annotation, define, elab_family, induct, check, obey}
