@@ -6,3 +6,5 @@ pub mod Diagnostics
 pub mod Exec
 pub mod Outline
 pub mod Laws
+pub mod Calls
+pub mod Answers

@@ -2,12 +2,19 @@
 //! Today that is every command that needs no proof.
 #![tactic(auto)]
 
+mod commands;
 mod deed;
 mod diagnostics;
+mod entering;
+mod exec;
+mod families;
 mod laws;
+mod names;
+mod sentences;
 mod state;
 
 pub use deed::Deed;
 pub use diagnostics::diagnostics_of;
+pub use exec::exec_sentence;
 pub use laws::{law_of_states, law_of_units};
 pub use state::{ProverState, Row};
