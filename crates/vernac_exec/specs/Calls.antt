@@ -1,10 +1,12 @@
 -- Commands and sentences on some fuel, for the calls that run them.
-use Rattle.std.specs.Prelude.{ℕ, List, [], Option}
+use Rattle.std.specs.Prelude.{ℕ, List, [], length, Option, Result, Err, if◌then◌else◌}
 use Rattle.base_core.specs.declared.kind.Kind.{Kind}
 use Rattle.base_core.specs.declared.refusals.Place.TheVariants.{Whole}
 use Rattle.base_core.specs.declared.refusals.Stop.{Stop}
-use Rattle.base_core.specs.declared.refusals.Stop.TheVariants.{Refused}
+use Rattle.base_core.specs.declared.refusals.Stop.TheVariants.{Refused, Out}
+use Rattle.base_core.specs.declared.refusals.Limit.TheVariants.{SizeLimit}
 use Rattle.prover_iface.specs.declared.outline.ItemKind.{ItemKind}
+use Rattle.prover_iface.specs.declared.outline.ItemKind.TheVariants as item
 use Rattle.coq_syntax.specs.declared.command.Constructor.{Constructor}
 use Rattle.coq_syntax.specs.declared.tree.Annotation.{Annotation}
 use Rattle.coq_syntax.specs.declared.tree.Group.{Group}
@@ -14,18 +16,22 @@ use Rattle.coq_syntax.specs.Nodes.{groups_of, annotation_of}
 use Rattle.coq_syntax.specs.Tokens.{Tokens}
 use Rattle.coq_syntax.specs.Trees.{Term}
 use Rattle.move_parser.specs.Sentences.{read_sentence}
-use Rattle.core_term.specs.Tree.{Tree}
+use Rattle.core_term.specs.Tree.{Tree, is_small}
 use Rattle.cic_rules.specs.declared.context.Hyp.{Hyp}
 use Rattle.cic_rules.specs.declared.decls.Ctor.{Ctor}
 use Rattle.cic_rules.specs.declared.decls.Decl.{Decl}
+use Rattle.cic_rules.specs.declared.decls.Decl.TheVariants.{Induct}
 use Rattle.cic_rules.specs.declared.env.Slot.{Slot}
+use Rattle.cic_rules.specs.Eliminators.{type_of_decl}
+use Rattle.cic_rules.specs.Environments.{entered}
+use Rattle.cic_rules.specs.Inductive.{assumed_type}
 use Rattle.cic_rules.specs.Fuel.{FuelState, left, calls_left}
 use Rattle.cic_rules.specs.Runs.{Ran, Run, ◌>>=◌, give, pure}
 use Rattle.elaborator.specs.declared.binders.Binding.{Binding}
 use Rattle.elaborator.specs.Constructors.{constructor_type}
 use Rattle.elaborator.specs.Elab.{elab, open_groups}
 use Rattle.vernac_exec.specs.declared.deed.Deed.{Deed}
-use Rattle.vernac_exec.specs.Families.{ctor, elab_constructors}
+use Rattle.vernac_exec.specs.Families.{ctor, family, elab_constructors}
 use Rattle.vernac_exec.specs.Commands.{declare_as, assume, elab_over, elab_annotation, define, elab_family, induct, check, obey}
 use Rattle.vernac_exec.specs.Sentences.{obey_read, sentence_run}
 
@@ -64,6 +70,21 @@ module _ (env : List Slot) where
 
   abbrev pub constructors_with : List Hyp → ℕ → List Constructor → FuelState → Ran (List Ctor)
   constructors_with params place cs f = elab_constructors env (calls_left f) params place [] (constructors_of cs) (left f)
+
+  -- the environment with a type as an assumption
+  abbrev pub assumed_in : List ℕ → List Hyp → Tree → Result (List Slot) Stop
+  assumed_in name params arity =
+      if is_small (type_of_decl (family name params arity [])) then entered env (assumed_type (family name params arity []))
+      else Err (Out SizeLimit)
+
+  -- what is left to do in that environment
+  abbrev pub rest_run : ℕ → List Slot → List ℕ → List Hyp → Tree → List Constructor → Run Deed
+  rest_run calls inner name params arity cs = do
+    ctors ← elab_constructors inner calls params (length env) [] (constructors_of cs)
+    declare_as env calls item.Inductive (Induct (family name params arity ctors))
+
+  abbrev pub rest_with : List Slot → List ℕ → List Hyp → Tree → List Constructor → FuelState → Ran Deed
+  rest_with inner name params arity cs f = rest_run (calls_left f) inner name params arity cs (left f)
 
   abbrev pub family_with : List ℕ → List Hyp → Tree → List Constructor → FuelState → Ran Deed
   family_with name params arity cs f = elab_family env (calls_left f) name params arity (constructors_of cs) (left f)

@@ -7,14 +7,14 @@ ghost use Rattle.vernac_exec.specs.Commands.{judgement_text};
 ghost use Rattle.vernac_exec.specs.Calls.{assume_with, elab_over_with, annotation_with, define_with, check_with, obey_with};
 
 use crate::deed::Deed;
-use crate::entering::{declare_as, refusal};
+use crate::entering::{close_over, declare_as, refusal};
 use crate::families::induct;
 use base_core::refusal_codes::{NAME_TAKEN, NO_PROOF, NOT_BUILT};
 use base_core::{NoMem, Stop, Text};
 use cic_rules::{Context, Decl, Declares, Fuel, GlobalEnv, Judge};
 use coq_syntax::{Annotation, Command, CommandForm, Group, SurfaceTerm};
 use core_term::Term;
-use elaborator::{Binding, close, elab, open_groups};
+use elaborator::{Binding, elab, open_groups};
 use prover_iface::ItemKind;
 use std::alloc::Global;
 use term_print::print_term;
@@ -42,7 +42,6 @@ fn assume<D: Declares>(
 }
 
 /// A term under groups, as a product or a function over them.
-#[tactic(auto, using(crate::proofs::CallLaws::take_all))]
 fn elab_over<J: Judge>(
     judge: &J,
     alloc: Global,
@@ -57,7 +56,7 @@ fn elab_over<J: Judge>(
     ensures kept { IsSpentOf fuel.old fuel.new }
 {
     let t = elab(judge, alloc, env, inner, s, fuel)?;
-    close(alloc, kind, inner, inner.len(), t)
+    close_over(alloc, kind, inner, t)
 }
 
 /// The type over the groups, where one is written.

@@ -1,12 +1,17 @@
-//! What a sentence asks of the kernel, and what it is refused with.
+//! What the commands share: refusals, terms over their groups, and what goes to the kernel.
 ghost use Rattle.std.specs.Prelude.{◌≡◌};
+ghost use Rattle.base_core.specs.Answers.{Gives};
 ghost use Rattle.cic_rules.specs.Fuel.{left, IsSpentOf};
 ghost use Rattle.cic_rules.specs.Judges.{Meets};
+ghost use Rattle.cic_rules.specs.Steps.{answer_of};
+ghost use Rattle.elaborator.specs.Parts.{closed};
 ghost use Rattle.vernac_exec.specs.Calls.{refusal_of, declare_as_with};
 
 use crate::deed::Deed;
 use base_core::{Place, Refusal, Stop};
-use cic_rules::{Decl, Declares, Fuel, GlobalEnv};
+use cic_rules::{Context, Decl, Declares, Fuel, GlobalEnv};
+use core_term::Term;
+use elaborator::{Binding, close};
 use prover_iface::ItemKind;
 use std::alloc::Global;
 
@@ -34,4 +39,17 @@ pub(crate) fn declare_as<D: Declares>(
 {
     let env = judge.declare(alloc, env, decl, fuel)?;
     Ok(Deed::Declares { kind, env })
+}
+
+/// A term under all hypotheses of a context, with its products or functions over them; out of size
+/// where it grows too large.
+pub(crate) fn close_over(
+    alloc: Global,
+    kind: Binding,
+    inner: &Context,
+    t: Term,
+) -> Result<Term, Stop>
+    ensures { Gives result (answer_of (closed kind inner.now t)) }
+{
+    close(alloc, kind, inner, inner.len(), t)
 }

@@ -9,10 +9,10 @@ ghost use Rattle.cic_rules.specs.Fuel.{left, IsSpentOf};
 ghost use Rattle.cic_rules.specs.Judges.{MayJudge, IsTermIn, Meets};
 ghost use Rattle.inductive_check.specs.Steps.{assumption_of, sized};
 ghost use Rattle.vernac_exec.specs.Families.{family};
-ghost use Rattle.vernac_exec.specs.Calls.{params_with, ctor_with, constructors_with, family_with, induct_with, induct_new_with};
+ghost use Rattle.vernac_exec.specs.Calls.{params_with, ctor_with, constructors_with, assumed_in, rest_with, family_with, induct_with, induct_new_with};
 
 use crate::deed::Deed;
-use crate::entering::{declare_as, refusal};
+use crate::entering::{close_over, declare_as, refusal};
 use crate::names::{any_taken, has_twice, written_names};
 use base_core::refusal_codes::{DUPLICATE_NAME, NAME_TAKEN};
 use base_core::{List, NoMem, Stop, Text};
@@ -22,7 +22,7 @@ use cic_rules::{
 };
 use coq_syntax::{Constructor, Group, SurfaceTerm};
 use core_term::Term;
-use elaborator::{Binding, close, elab, elab_constructor, open_groups};
+use elaborator::{Binding, elab, elab_constructor, open_groups};
 use prover_iface::ItemKind;
 use std::alloc::Global;
 use term_spine::globals;
@@ -107,12 +107,35 @@ fn elab_family<D: Declares>(
     ensures answer { Meets result (left fuel.new) (family_with env.now name.now params.now arity constructors.now fuel.old) }
     ensures kept { IsSpentOf fuel.old fuel.new }
 {
-    let place = env.len();
-    let ty = type_of_family(alloc, name, params, &arity)?;
-    let inner = with_assumed(alloc, env, name, ty)?;
-    let ctors = elab_constructors(judge, alloc, &inner, params, place, constructors, fuel)?;
-    let decl = family(alloc, name, params, arity, ctors)?;
-    declare_as(judge, alloc, env, ItemKind::Inductive, &decl, fuel)
+    let inner = assumed(alloc, env, name, params, &arity)?;
+    declare_family(
+        judge,
+        alloc,
+        env,
+        &inner,
+        name,
+        params,
+        arity,
+        constructors,
+        fuel,
+    )
+}
+
+/// The environment with a type as an assumption.
+fn assumed(
+    alloc: Global,
+    env: &GlobalEnv,
+    name: &Text,
+    params: &Context,
+    arity: &Term,
+) -> Result<GlobalEnv, Stop>
+    requires new { IsNew env.now name.now }
+    requires judged { MayJudge env.now params.now }
+    requires arity { IsTermIn env.now params.now arity.now }
+    ensures { Gives result (assumed_in env.now name.now params.now arity.now) }
+{
+    let ty = type_of_family(alloc, name, params, arity)?;
+    with_assumed(alloc, env, name, ty)
 }
 
 /// The type of an inductive type: its arity over its parameters.
@@ -120,10 +143,10 @@ fn type_of_family(alloc: Global, name: &Text, params: &Context, arity: &Term) ->
     ensures { Gives result (sized (type_of_decl (family name.now params.now arity.now []))) }
 {
     let arity = arity.share()?;
-    close(alloc, Binding::Product, params, params.len(), arity)
+    close_over(alloc, Binding::Product, params, arity)
 }
 
-/// The environment with a type as an assumption.
+/// The environment with an assumption that uses the globals of its type.
 fn with_assumed(alloc: Global, env: &GlobalEnv, name: &Text, ty: Term) -> Result<GlobalEnv, Stop>
     requires { MayEnter env.now (assumption_of name.now ty) }
     ensures { Gives result (entered env.now (assumption_of name.now ty)) }
@@ -137,6 +160,30 @@ fn with_assumed(alloc: Global, env: &GlobalEnv, name: &Text, ty: Term) -> Result
         used,
     };
     env.with_entry(alloc, entry)
+}
+
+/// A type that is assumed in an environment: its constructors are elaborated in that, and all is
+/// declared.
+fn declare_family<D: Declares>(
+    judge: &D,
+    alloc: Global,
+    env: &GlobalEnv,
+    inner: &GlobalEnv,
+    name: &Text,
+    params: &Context,
+    arity: Term,
+    constructors: &[Constructor],
+    fuel: &mut Fuel,
+) -> Result<Deed, Stop>
+    requires judged { MayJudge inner.now params.now }
+    requires plain { AreParams params.now }
+    ensures answer { Meets result (left fuel.new) (rest_with env.now inner.now name.now params.now arity constructors.now fuel.old) }
+    ensures kept { IsSpentOf fuel.old fuel.new }
+{
+    let place = env.len();
+    let ctors = elab_constructors(judge, alloc, inner, params, place, constructors, fuel)?;
+    let decl = family(alloc, name, params, arity, ctors)?;
+    declare_as(judge, alloc, env, ItemKind::Inductive, &decl, fuel)
 }
 
 /// The constructors, from left to right, in an environment that has their type at a place.

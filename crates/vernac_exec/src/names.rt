@@ -1,5 +1,8 @@
 //! The names that an inductive type will have, as they are written.
-ghost use Rattle.std.specs.Prelude.{◌≡◌, ◌++◌, IfOk, OnOk};
+ghost use Rattle.std.specs.Prelude.{◌≡◌, ◌++◌, is_some, IfOk, OnOk};
+ghost use Rattle.std.specs.Ordering.{nat_cmp};
+ghost use Rattle.std.specs.Cmp.Lexicographic.{slice_cmp};
+ghost use Rattle.shared_map.specs.Entries.{look};
 ghost use Rattle.coq_syntax.specs.Forms.{constructors_of};
 ghost use Rattle.cic_rules.specs.Inductive.{ctor_names, has_twice, any_taken};
 ghost use Rattle.vernac_exec.specs.Families.{named_ctors, written_names};
@@ -48,17 +51,23 @@ fn with_ending(alloc: Global, name: &Text, ending: &str) -> Result<Text, NoMem>
 pub(crate) fn has_twice(alloc: Global, names: &[Text]) -> Result<bool, NoMem>
     ensures { IfOk result (λ twice. twice ≡ has_twice names.now) }
 {
-    let mut behind = SharedMap::empty();
+    let mut behind: SharedMap<Text, ()> = SharedMap::empty();
     let mut at = names.len();
     while at > 0 {
         at -= 1;
         let name = &names[at];
-        if behind.get(name).is_some() {
+        if has(&behind, name) {
             return Ok(true);
         }
         behind = behind.with(alloc, name.share()?, ())?;
     }
     Ok(false)
+}
+
+fn has(index: &SharedMap<Text, ()>, name: &Text) -> bool
+    ensures { result ≡ is_some (look (slice_cmp nat_cmp) index.now name.now) }
+{
+    index.get(name).is_some()
 }
 
 /// Whether a global has one of these names.
