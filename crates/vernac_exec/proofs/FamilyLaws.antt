@@ -1,8 +1,10 @@
 -- Inductive types as they are written: their types, their parameters, and their constructors one by one.
-use Rattle.std.proofs.Common.{◌≡◌, ℕ, suc, ◌+◌, ◌-◌, ◌<◌, ◌≤◌, List, [], ◌∷◌, ◌++◌, length, drop, get_or, slice_get, Bool, true, false, Option, Some, None, Result, Ok, Err, refl, sym, ap, subst, ◌∙◌, arith, drop-cons}
+use Rattle.std.proofs.Common.{◌≡◌, ℕ, zero, suc, ◌+◌, ◌-◌, ◌<◌, ◌≤◌, List, [], ◌∷◌, ◌++◌, length, drop, get_or, slice_get, Bool, true, false, Option, Some, None, Result, Ok, Err, refl, sym, ap, subst, ◌∙◌, arith, drop-cons}
 use Rattle.std.specs.Prelude.{if◌then◌else◌, reverse, IfOk}
 use Rattle.std.proofs.lemmas.Grind.{reverse_onto}
-use Rattle.std.proofs.lemmas.List.{drop_all, take_all}
+use Rattle.std.proofs.lemmas.Bool.Decides.{nat_tests}
+use Rattle.std.proofs.lemmas.List.{drop_all}
+use Rattle.std.proofs.lemmas.Option.{slice_get_within, get_or_from_slice_get}
 use Rattle.base_core.specs.Answers.{Gives}
 use Rattle.base_core.specs.declared.refusals.Stop.{Stop}
 use Rattle.base_core.specs.declared.refusals.Stop.TheVariants.{Refused, Out, NoMem}
@@ -13,7 +15,7 @@ use Rattle.coq_syntax.specs.declared.words.BoundName.{BoundName}
 use Rattle.coq_syntax.specs.Forms.{constructors_of}
 use Rattle.coq_syntax.specs.Nodes.{groups_of, annotation_of}
 use Rattle.coq_syntax.specs.Trees.{Term, GroupList, NoGroup, Group as OneGroup}
-use Rattle.core_term.specs.Tree.{Tree, Prod, size_of, depth_of, is_small}
+use Rattle.core_term.specs.Tree.{Tree, IsTerm, Prod, size_of, depth_of, is_small}
 use Rattle.core_term.specs.Places.{lift_of}
 use Rattle.cic_rules.specs.declared.context.Hyp.{Hyp}
 use Rattle.cic_rules.specs.declared.decls.Ctor.{Ctor}
@@ -78,6 +80,15 @@ closed_products [] t small = sym (room_is t small)
 closed_products (h ∷ hs) t small =
     front_by (is_small (Prod h.name h.ty t)) hs (Prod h.name h.ty t) refl (λ e. closed_products hs (Prod h.name h.ty t) e)
     ∙ ap room_for (sym (over_front h hs t))
+
+term_small : (t : Tree) → IsTerm t → is_small t ≡ true
+term_small t is = let small = is.small in let shallow = is.shallow in grind (arith, nat_tests)
+
+pub family_type : (result : Result Tree Stop) (name : List ℕ) (hs : List Hyp) (arity given : Tree) → IsTerm arity → given ≡ arity →
+    Gives result (answer_of (closed Product hs given)) → Gives result (room_for (type_of_decl (family name hs arity [])))
+family_type result name hs arity given is same h =
+    let P : Result Tree Stop → Type 0 = λ r. Gives result r in
+    subst P (ap (λ t. answer_of (closed Product hs t)) same ∙ closed_products hs arity (term_small arity is)) h
 
 -- and they are in scope
 over_scoped : (globals : ℕ) (hs : List Hyp) (t : Tree) → IsScopedContext globals hs → IsScoped (length hs) globals t →
@@ -259,5 +270,22 @@ first_ctor env hs place cs done old e =
 -- the oldest hypotheses of a context, in that order
 plain_at : (hs : List Hyp) (i : ℕ) (h : Hyp) → AreParams hs → Some h ≡ slice_get hs i → h.value ≡ None
 plain_at [] i h plain e = absurd (cc)
-plain_at (x ∷ xs) 0 h plain e = let same : h ≡ x = cc in ap (λ y. y.value) same ∙ plain.0
+plain_at (x ∷ xs) zero h plain e = let same : h ≡ x = cc in ap (λ y. y.value) same ∙ plain.0
 plain_at (x ∷ xs) (suc i) h plain e = plain_at xs i h plain.1 e
+
+plain_is : (h : Hyp) → h.value ≡ None → plain_hyp h.name h.ty ≡ h
+plain_is h none = ap (λ v. record { name = h.name; ty = h.ty; value = v }) (sym none)
+
+one_before : (hs : List Hyp) (i at : ℕ) (h : Hyp) → at ≡ suc i → Some h ≡ slice_get hs i → drop i hs ≡ h ∷ drop at hs
+one_before hs i at h next found =
+    drop-cons hs i h (slice_get_within hs i h (sym found)) ∙ ap (λ y. y ∷ drop (suc i) hs) (get_or_from_slice_get hs i h h (sym found))
+    ∙ ap (λ k. h ∷ drop k hs) (sym next)
+
+pub oldest_next : (hs : List Hyp) (at : ℕ) (list all : List Hyp) (h : Hyp) (name : List ℕ) (ty : Tree) → 0 < at → AreParams hs →
+    Some h ≡ slice_get hs (at - 1) → list ≡ reverse (drop at hs) → name ≡ h.name → ty ≡ h.ty → all ≡ list ++ plain_hyp name ty ∷ [] →
+    all ≡ reverse (drop (at - 1) hs)
+oldest_next hs at list all h name ty some plain found made named typed e =
+    let same : plain_hyp name ty ≡ h =
+    ap (λ n. plain_hyp n ty) named ∙ ap (λ t. plain_hyp h.name t) typed ∙ plain_is h (plain_at hs (at - 1) h plain found) in
+    e ∙ ap (λ x. list ++ x ∷ []) same ∙ ap (λ xs. xs ++ h ∷ []) made ∙ sym (reverse_onto (drop at hs) h [])
+    ∙ ap reverse (sym (one_before hs (at - 1) at h (omega (arith, some)) found))

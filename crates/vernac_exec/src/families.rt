@@ -142,6 +142,7 @@ fn assumed(
 fn type_of_family(alloc: Global, name: &Text, params: &Context, arity: &Term) -> Result<Term, Stop>
     ensures { Gives result (sized (type_of_decl (family name.now params.now arity.now []))) }
 {
+    let _size = arity.size();
     let arity = arity.share()?;
     close_over(alloc, Binding::Product, params, arity)
 }
