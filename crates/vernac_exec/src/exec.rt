@@ -1,5 +1,5 @@
 //! One sentence in a state, with so many units.
-ghost use Rattle.std.specs.Prelude.{◌≡◌, ◌^◌, ◌<◌, length, IfOk};
+ghost use Rattle.std.specs.Prelude.{◌≡◌, ◌^◌, ◌<◌, ◌≤◌, length, IfOk};
 ghost use Rattle.base_core.specs.Fit.{IsFit};
 ghost use Rattle.prover_iface.specs.Exec.{Works};
 ghost use Rattle.prover_iface.specs.Sentences.{sentence};
