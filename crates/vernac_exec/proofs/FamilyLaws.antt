@@ -1,50 +1,43 @@
 -- Inductive types as they are written: their types, their parameters, and their constructors one by one.
-use Rattle.std.proofs.Common.{◌≡◌, ℕ, zero, suc, ◌+◌, ◌-◌, ◌<◌, ◌≤◌, List, [], ◌∷◌, ◌++◌, length, drop, get_or, slice_get, Bool, true, false, Option, Some, None, Result, Ok, Err, refl, sym, ap, subst, ◌∙◌, arith, drop-cons}
+use Rattle.std.proofs.Common.{◌≡◌, ℕ, zero, suc, ◌-◌, ◌<◌, ◌≤◌, List, [], ◌∷◌, ◌++◌, length, drop, slice_get, Bool, true, false, Some, None, Result, Ok, Err, refl, sym, ap, subst, ◌∙◌, arith, drop-cons}
 use Rattle.std.specs.Prelude.{if◌then◌else◌, reverse, IfOk}
 use Rattle.std.proofs.lemmas.Grind.{reverse_onto}
 use Rattle.std.proofs.lemmas.Bool.Decides.{nat_tests}
-use Rattle.std.proofs.lemmas.List.{drop_all}
 use Rattle.std.proofs.lemmas.Option.{slice_get_within, get_or_from_slice_get}
 use Rattle.base_core.specs.Answers.{Gives}
 use Rattle.base_core.specs.declared.refusals.Stop.{Stop}
-use Rattle.base_core.specs.declared.refusals.Stop.TheVariants.{Refused, Out, NoMem}
+use Rattle.base_core.specs.declared.refusals.Stop.TheVariants.{Out}
 use Rattle.base_core.specs.declared.refusals.Limit.TheVariants.{SizeLimit}
-use Rattle.coq_syntax.specs.declared.command.Constructor.{Constructor}
 use Rattle.coq_syntax.specs.declared.tree.Group.{Group}
 use Rattle.coq_syntax.specs.declared.words.BoundName.{BoundName}
-use Rattle.coq_syntax.specs.Forms.{constructors_of}
-use Rattle.coq_syntax.specs.Nodes.{groups_of, annotation_of}
-use Rattle.coq_syntax.specs.Trees.{Term, GroupList, NoGroup, Group as OneGroup}
+use Rattle.coq_syntax.specs.Nodes.{groups_of}
+use Rattle.coq_syntax.specs.Trees.{GroupList, NoGroup, Group as OneGroup}
 use Rattle.core_term.specs.Tree.{Tree, IsTerm, Prod, size_of, depth_of, is_small}
 use Rattle.core_term.specs.Places.{lift_of}
 use Rattle.cic_rules.specs.declared.context.Hyp.{Hyp}
-use Rattle.cic_rules.specs.declared.decls.Ctor.{Ctor}
 use Rattle.cic_rules.specs.declared.env.Slot.{Slot}
 use Rattle.cic_rules.specs.Contexts.{products_over, extended, plain_hyp, AreParams}
 use Rattle.cic_rules.specs.Eliminators.{type_of_decl}
 use Rattle.cic_rules.specs.Environments.{entered, IsNew, MayEnter}
-use Rattle.cic_rules.specs.Fuel.{FuelState, left, calls_left, IsSpentOf}
+use Rattle.cic_rules.specs.Fuel.{FuelState, left, calls_left}
 use Rattle.cic_rules.specs.Inductive.{assumed_type}
 use Rattle.cic_rules.specs.Judges.{MayJudge, IsTermIn, Meets}
 use Rattle.cic_rules.specs.Laws.{Tells}
-use Rattle.cic_rules.specs.Runs.{Ran, Run, give, pure, and_then, out_of, ◌>>=◌, ◌>>◌, check_size}
+use Rattle.cic_rules.specs.Runs.{Run}
 use Rattle.cic_rules.specs.Scopes.{IsScoped, IsScopedContext}
-use Rattle.cic_rules.specs.Steps.{Step, TooLarge, step_then, answer_of}
+use Rattle.cic_rules.specs.Steps.{TooLarge, step_then, answer_of}
 use Rattle.cic_rules.proofs.TellsLaws.{tells_give, tells_pure, tells_bind}
 use Rattle.inductive_check.specs.Steps.{assumption_of, sized as room_for}
 use Rattle.inductive_check.proofs.BehindLaws.{judged_inner, sized_is}
 use Rattle.inductive_check.proofs.OpenLaws.{assumed_may}
 use Rattle.inductive_check.proofs.PartLaws.{large_more}
 use Rattle.elaborator.specs.declared.binders.Binding.TheVariants.{Product}
-use Rattle.elaborator.specs.Constructors.{constructor_type}
 use Rattle.elaborator.specs.Elab.{elab, open_groups}
 use Rattle.elaborator.specs.Names.{bound_name}
 use Rattle.elaborator.specs.Parts.{closed, then_open, opened}
 use Rattle.elaborator.specs.Rows.{bound}
-use Rattle.vernac_exec.specs.declared.deed.Deed.{Deed}
-use Rattle.vernac_exec.specs.Families.{ctor, family, elab_constructors}
-use Rattle.vernac_exec.specs.Calls.{params_with, ctor_run, ctor_with, constructors_with, assumed_in, rest_run, rest_with, family_with}
-use Rattle.vernac_exec.proofs.CallLaws.{calls_same, spent_twice, goes_by, meets_stop, given_stop, given_value, then_pure}
+use Rattle.vernac_exec.specs.Families.{family}
+use Rattle.vernac_exec.specs.Calls.{params_with, assumed_in}
 
 -- products over a context, whose newest hypothesis stands nearest to the term
 over_append : (xs ys : List Hyp) (t : Tree) → products_over (xs ++ ys) t ≡ products_over xs (products_over ys t)
@@ -103,39 +96,6 @@ assumed_ready env name hs arity ty made new judged is =
     subst (λ t. MayEnter env (assumption_of name t)) (sym (sized_is ty (type_of_decl (family name hs arity [])) made))
     (assumed_may env name (type_of_decl (family name hs arity [])) new (over_scoped (length env) hs arity judged.scoped is))
 
--- the environment with the type assumed
-assumed_by : {A : Type 0} (b : Bool) (given : Result A Stop) (entries : Result A Stop) → b ≡ true → Gives given entries →
-    Gives given (if b then entries else Err (Out SizeLimit))
-assumed_by true given entries e h = h
-assumed_by false given entries e h = absurd (cc)
-
-small_by : (b : Bool) (x t : Tree) → ◌≡◌ {A = Result Tree Stop} (Ok x) (if b then Ok t else Err (Out SizeLimit)) → b ≡ true
-small_by true x t e = refl
-small_by false x t e = absurd (cc)
-
-pub assumed_gives : (env : List Slot) (name : List ℕ) (hs : List Hyp) (arity ty : Tree) (given : Result (List Slot) Stop) →
-    Ok ty ≡ room_for (type_of_decl (family name hs arity [])) → Gives given (entered env (assumption_of name ty)) →
-    Gives given (assumed_in env name hs arity)
-assumed_gives env name hs arity ty given made h =
-    assumed_by (is_small (type_of_decl (family name hs arity []))) given (entered env (assumed_type (family name hs arity [])))
-    (small_by (is_small (type_of_decl (family name hs arity []))) ty (type_of_decl (family name hs arity [])) made)
-    (subst (λ t. Gives given (entered env (assumption_of name t))) (sized_is ty (type_of_decl (family name hs arity [])) made) h)
-
-large_by : (b : Bool) (t : Tree) (entries : Result (List Slot) Stop) (stop : Stop) → Gives {A = Tree} (Err stop) (if b then Ok t else Err (Out SizeLimit)) →
-    Gives {A = List Slot} (Err stop) (if b then entries else Err (Out SizeLimit))
-large_by true t entries (Refused r) h = absurd (cc)
-large_by true t entries (Out l) h = absurd (cc)
-large_by true t entries NoMem h = tt
-large_by false t entries (Refused r) h = absurd (cc)
-large_by false t entries (Out l) h = cc
-large_by false t entries NoMem h = tt
-
-pub assumed_large : (env : List Slot) (name : List ℕ) (hs : List Hyp) (arity : Tree) (stop : Stop) →
-    Gives {A = Tree} (Err stop) (room_for (type_of_decl (family name hs arity []))) → Gives {A = List Slot} (Err stop) (assumed_in env name hs arity)
-assumed_large env name hs arity stop h =
-    large_by (is_small (type_of_decl (family name hs arity []))) (type_of_decl (family name hs arity []))
-    (entered env (assumed_type (family name hs arity []))) stop h
-
 there_by : (b : Bool) (inner : List Slot) (entries : Result (List Slot) Stop) → Ok inner ≡ (if b then entries else Err (Out SizeLimit)) → Ok inner ≡ entries
 there_by true inner entries e = e
 there_by false inner entries e = absurd (cc)
@@ -146,33 +106,6 @@ pub judged_there : (env inner : List Slot) (name : List ℕ) (hs : List Hyp) (ar
 judged_there env inner name hs arity judged made =
     judged_inner env inner (assumed_type (family name hs arity [])) hs judged
     (there_by (is_small (type_of_decl (family name hs arity []))) inner (entered env (assumed_type (family name hs arity []))) made)
-
--- size, room and the rest are the environment and the rest
-family_by : (b : Bool) (entries : Result (List Slot) Stop) (rest : List Slot → Run Deed) (l : ℕ) →
-    ((if b then pure tt else out_of SizeLimit) >> (give entries >>= rest)) l ≡ (give (if b then entries else Err (Out SizeLimit)) >>= rest) l
-family_by true entries rest l = refl
-family_by false entries rest l = refl
-
-family_is : (env : List Slot) (name : List ℕ) (hs : List Hyp) (arity : Tree) (cs : List Constructor) (f : FuelState) →
-    family_with env name hs arity cs f ≡ (give (assumed_in env name hs arity) >>= (λ inner. rest_run env (calls_left f) inner name hs arity cs)) (left f)
-family_is env name hs arity cs f =
-    family_by (is_small (type_of_decl (family name hs arity []))) (entered env (assumed_type (family name hs arity [])))
-    (λ inner. rest_run env (calls_left f) inner name hs arity cs) (left f)
-
-pub family_stops : (env : List Slot) (name : List ℕ) (hs : List Hyp) (arity : Tree) (cs : List Constructor) (f : FuelState) (stop : Stop) (l : ℕ) →
-    l ≡ left f → Gives {A = List Slot} (Err stop) (assumed_in env name hs arity) → Meets {A = Deed} (Err stop) l (family_with env name hs arity cs f)
-family_stops env name hs arity cs f stop l same h =
-    subst (λ n. Meets {A = Deed} (Err stop) n (family_with env name hs arity cs f)) (sym same)
-    (given_stop stop (assumed_in env name hs arity) (left f) (λ inner. rest_run env (calls_left f) inner name hs arity cs) (family_with env name hs arity cs f)
-    (family_is env name hs arity cs f) h)
-
-pub family_goes : (env inner : List Slot) (name : List ℕ) (hs : List Hyp) (arity : Tree) (cs : List Constructor) (f : FuelState) (result : Result Deed Stop) (l : ℕ) →
-    Ok inner ≡ assumed_in env name hs arity → Meets result l (rest_with env inner name hs arity cs f) → Meets result l (family_with env name hs arity cs f)
-family_goes env inner name hs arity cs f result l made met =
-    let P : Ran Deed → Type 0 = λ ran. Meets result l ran in
-    subst P
-    (sym (family_is env name hs arity cs f
-    ∙ given_value inner (assumed_in env name hs arity) (left f) (λ more. rest_run env (calls_left f) more name hs arity cs) made)) met
 
 -- groups make hypotheses without definitions
 opened_by : (answer : Result (List Hyp) Stop) (rest : List Hyp → Result (List Hyp) Stop) (all : List Hyp) →
@@ -211,61 +144,6 @@ pub params_plain : (env : List Slot) (gs : List Group) (f : FuelState) (answer :
     IfOk answer AreParams
 params_plain env gs f (Ok hs) l met = (groups_plain env (calls_left f) [] (groups_of gs) tt).tells (left f) hs (sym met.0)
 params_plain env gs f (Err stop) l met = tt
-
--- the items of a list from one of them on
-pub at_index : {A : Type 0} (xs : List A) (i : ℕ) (x : A) → i < length xs → x ≡ get_or xs i x → drop i xs ≡ x ∷ drop (i + 1) xs
-at_index xs i x lt is =
-    let one : suc i ≡ i + 1 = omega arith in
-    drop-cons xs i x lt ∙ ap (λ y. y ∷ drop (suc i) xs) (sym is) ∙ ap (λ n. x ∷ drop n xs) one
-
--- constructors: those behind an index are still to be done
-pub record IsUnderWay (env : List Slot) (hs : List Hyp) (place : ℕ) (cs : List Constructor) (index : ℕ) (done : List Ctor) (old new : FuelState) : Type 0 where
-  pub same : constructors_with env hs place cs old ≡ elab_constructors env (calls_left new) hs place done (constructors_of (drop index cs)) (left new)
-  pub kept : IsSpentOf old new
-
-ctor_front : (env : List Slot) (hs : List Hyp) (place : ℕ) (cs : List Constructor) (index : ℕ) (done : List Ctor) (old new : FuelState) (c : Constructor) →
-    index < length cs → c ≡ get_or cs index c → IsUnderWay env hs place cs index done old new →
-    constructors_with env hs place cs old
-    ≡ (ctor_run env (calls_left new) hs place c
-    >>= (λ k. elab_constructors env (calls_left new) hs place (done ++ k ∷ []) (constructors_of (drop (index + 1) cs)))) (left new)
-ctor_front env hs place cs index done old new c lt is way =
-    way.same ∙ ap (λ xs. elab_constructors env (calls_left new) hs place done (constructors_of xs) (left new)) (at_index cs index c lt is)
-    ∙ then_pure (constructor_type env (calls_left new) hs place (groups_of c.groups.items) (annotation_of c.annotation)) (ctor c.name.text)
-    (λ k. elab_constructors env (calls_left new) hs place (done ++ k ∷ []) (constructors_of (drop (index + 1) cs))) (left new)
-
-pub next_ctor : (env : List Slot) (hs : List Hyp) (place : ℕ) (cs : List Constructor) (index : ℕ) (done all : List Ctor) (old new newer : FuelState) (c : Constructor)
-    (k : Ctor) → index < length cs → c ≡ get_or cs index c → IsUnderWay env hs place cs index done old new →
-    Meets (Ok k) (left newer) (ctor_with env hs place c new) → IsSpentOf new newer → all ≡ done ++ k ∷ [] →
-    IsUnderWay env hs place cs (index + 1) all old newer
-next_ctor env hs place cs index done all old new newer c k lt is way met kept e =
-    let rest : Ctor → Run (List Ctor) = λ x. elab_constructors env (calls_left new) hs place (done ++ x ∷ []) (constructors_of (drop (index + 1) cs)) in
-    record {
-      same =
-          ctor_front env hs place cs index done old new c lt is way ∙ goes_by k (left newer) (ctor_with env hs place c new) rest met.0 met.1
-          ∙ ap (λ calls. elab_constructors env calls hs place (done ++ k ∷ []) (constructors_of (drop (index + 1) cs)) (left newer)) (sym (calls_same new newer kept))
-          ∙ ap (λ ks. elab_constructors env (calls_left newer) hs place ks (constructors_of (drop (index + 1) cs)) (left newer)) (sym e);
-      kept = spent_twice old new newer way.kept kept;
-    }
-
-pub stopped_ctor : (env : List Slot) (hs : List Hyp) (place : ℕ) (cs : List Constructor) (index : ℕ) (done : List Ctor) (old new newer : FuelState) (c : Constructor)
-    (stop : Stop) → index < length cs → c ≡ get_or cs index c → IsUnderWay env hs place cs index done old new →
-    Meets {A = Ctor} (Err stop) (left newer) (ctor_with env hs place c new) →
-    Meets {A = List Ctor} (Err stop) (left newer) (constructors_with env hs place cs old)
-stopped_ctor env hs place cs index done old new newer c stop lt is way met =
-    let rest : Ctor → Run (List Ctor) = λ x. elab_constructors env (calls_left new) hs place (done ++ x ∷ []) (constructors_of (drop (index + 1) cs)) in
-    meets_stop stop (left newer) (ctor_with env hs place c new) rest _ (ctor_front env hs place cs index done old new c lt is way) met
-
-pub last_ctor : (env : List Slot) (hs : List Hyp) (place : ℕ) (cs : List Constructor) (index : ℕ) (done : List Ctor) (old new : FuelState) →
-    length cs ≤ index → IsUnderWay env hs place cs index done old new → Meets (Ok done) (left new) (constructors_with env hs place cs old)
-last_ctor env hs place cs index done old new past way =
-    let all = way.same ∙ ap (λ xs. elab_constructors env (calls_left new) hs place done (constructors_of xs) (left new)) (drop_all index cs past) in
-    (sym (ap (λ w. w.answer) all), sym (ap (λ w. w.left) all))
-
-pub first_ctor : (env : List Slot) (hs : List Hyp) (place : ℕ) (cs : List Constructor) (done : List Ctor) (old : FuelState) → done ≡ [] →
-    IsUnderWay env hs place cs 0 done old old
-first_ctor env hs place cs done old e =
-    let there : IsUnderWay env hs place cs 0 [] old old = record { same = refl; kept = record { limit = refl; nesting = refl; spent = omega arith } } in
-    subst (λ ks. IsUnderWay env hs place cs 0 ks old old) (sym e) there
 
 -- the oldest hypotheses of a context, in that order
 plain_at : (hs : List Hyp) (i : ℕ) (h : Hyp) → AreParams hs → Some h ≡ slice_get hs i → h.value ≡ None

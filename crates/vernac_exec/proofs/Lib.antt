@@ -2,7 +2,6 @@ pub mod FuelOfExec
 pub mod UnitLaws
 pub mod StateLaws
 pub mod Samples
-pub mod CallLaws
 pub mod FamilyLaws
 pub mod NameLaws
 pub mod ExecLaws

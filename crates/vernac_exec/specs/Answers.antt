@@ -1,5 +1,5 @@
 -- What came of a sentence that was run with so many units.
-use Rattle.std.specs.Prelude.{◌≡◌, ℕ, ◌<◌, ◌≤◌, nat_lt, Bool, true, false, Result, Ok, Err}
+use Rattle.std.specs.Prelude.{◌≡◌, ℕ, ◌<◌, ◌≤◌, nat_lt, Bool, true, false, Result, Err}
 use Rattle.base_core.specs.declared.limits.TheConstants.{UNIT_LIMIT}
 use Rattle.base_core.specs.declared.refusals.Limit.TheVariants.{StepLimit}
 use Rattle.base_core.specs.declared.refusals.Stop.{Stop}

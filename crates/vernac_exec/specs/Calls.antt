@@ -24,20 +24,29 @@ use Rattle.cic_rules.specs.declared.decls.Decl.TheVariants.{Induct}
 use Rattle.cic_rules.specs.declared.env.Slot.{Slot}
 use Rattle.cic_rules.specs.Eliminators.{type_of_decl}
 use Rattle.cic_rules.specs.Environments.{entered}
-use Rattle.cic_rules.specs.Inductive.{assumed_type}
+use Rattle.cic_rules.specs.Inductive.{ctor_names, assumed_type}
+use Rattle.cic_rules.specs.Judges.{Meets}
 use Rattle.cic_rules.specs.Fuel.{FuelState, left, calls_left}
 use Rattle.cic_rules.specs.Runs.{Ran, Run, ◌>>=◌, give, pure}
 use Rattle.elaborator.specs.declared.binders.Binding.{Binding}
 use Rattle.elaborator.specs.Constructors.{constructor_type}
 use Rattle.elaborator.specs.Elab.{elab, open_groups}
 use Rattle.vernac_exec.specs.declared.deed.Deed.{Deed}
-use Rattle.vernac_exec.specs.Families.{ctor, family, elab_constructors}
+use Rattle.vernac_exec.specs.Families.{ctor, family, named_ctors, elab_constructors}
 use Rattle.vernac_exec.specs.Commands.{declare_as, assume, elab_over, elab_annotation, define, elab_family, induct, check, obey}
 use Rattle.vernac_exec.specs.Sentences.{obey_read, sentence_run}
 
 -- a refusal at the whole sentence
 abbrev pub refusal_of : ℕ → Stop
 refusal_of code = Refused (record { code = code; place = Whole })
+
+-- a call does what is told on the fuel that it had
+abbrev pub Does : {A : Type 0} → Result A Stop → FuelState → FuelState → (FuelState → Ran A) → Type 0
+Does result old new call = Meets result (left new) (call old)
+
+-- the names of constructors as a parser gives them
+abbrev pub constructor_names : List Constructor → List (List ℕ)
+constructor_names cs = ctor_names (named_ctors (constructors_of cs))
 
 module _ (env : List Slot) where
   abbrev pub declare_as_with : ItemKind → Decl → FuelState → Ran Deed

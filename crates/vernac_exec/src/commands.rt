@@ -1,10 +1,10 @@
 //! The commands that need no proof, each as its run says: names first, then elaboration from left to
 //! right, then the kernel.
 ghost use Rattle.std.specs.Prelude.{◌≡◌, IfOk};
-ghost use Rattle.cic_rules.specs.Fuel.{left, IsSpentOf};
-ghost use Rattle.cic_rules.specs.Judges.{MayJudge, Meets};
+ghost use Rattle.cic_rules.specs.Fuel.{IsSpentOf};
+ghost use Rattle.cic_rules.specs.Judges.{MayJudge};
 ghost use Rattle.vernac_exec.specs.Commands.{judgement_text};
-ghost use Rattle.vernac_exec.specs.Calls.{assume_with, elab_over_with, annotation_with, define_with, check_with, obey_with};
+ghost use Rattle.vernac_exec.specs.Calls.{Does, assume_with, elab_over_with, annotation_with, define_with, check_with, obey_with};
 
 use crate::deed::Deed;
 use crate::entering::{close_over, declare_as, refusal};
@@ -28,7 +28,7 @@ fn assume<D: Declares>(
     ty: &SurfaceTerm,
     fuel: &mut Fuel,
 ) -> Result<Deed, Stop>
-    ensures answer { Meets result (left fuel.new) (assume_with env.now name.now ty.now fuel.old) }
+    ensures answer { Does result fuel.old fuel.new (assume_with env.now name.now ty.now) }
     ensures kept { IsSpentOf fuel.old fuel.new }
 {
     if env.place_of(name).is_some() {
@@ -52,7 +52,7 @@ fn elab_over<J: Judge>(
     fuel: &mut Fuel,
 ) -> Result<Term, Stop>
     requires { MayJudge env.now inner.now }
-    ensures answer { Meets result (left fuel.new) (elab_over_with env.now kind inner.now s.now fuel.old) }
+    ensures answer { Does result fuel.old fuel.new (elab_over_with env.now kind inner.now s.now) }
     ensures kept { IsSpentOf fuel.old fuel.new }
 {
     let t = elab(judge, alloc, env, inner, s, fuel)?;
@@ -69,7 +69,7 @@ fn elab_annotation<J: Judge>(
     fuel: &mut Fuel,
 ) -> Result<Option<Term>, Stop>
     requires { MayJudge env.now inner.now }
-    ensures answer { Meets result (left fuel.new) (annotation_with env.now inner.now annotation.now fuel.old) }
+    ensures answer { Does result fuel.old fuel.new (annotation_with env.now inner.now annotation.now) }
     ensures kept { IsSpentOf fuel.old fuel.new }
 {
     match annotation {
@@ -92,7 +92,7 @@ fn define<D: Declares>(
     value: &SurfaceTerm,
     fuel: &mut Fuel,
 ) -> Result<Deed, Stop>
-    ensures answer { Meets result (left fuel.new) (define_with env.now name.now groups.now annotation.now value.now fuel.old) }
+    ensures answer { Does result fuel.old fuel.new (define_with env.now name.now groups.now annotation.now value.now) }
     ensures kept { IsSpentOf fuel.old fuel.new }
 {
     if env.place_of(name).is_some() {
@@ -120,7 +120,7 @@ fn check<J: Judge>(
     s: &SurfaceTerm,
     fuel: &mut Fuel,
 ) -> Result<Deed, Stop>
-    ensures answer { Meets result (left fuel.new) (check_with env.now s.now fuel.old) }
+    ensures answer { Does result fuel.old fuel.new (check_with env.now s.now) }
     ensures kept { IsSpentOf fuel.old fuel.new }
 {
     let ctx = Context::empty();
@@ -152,7 +152,7 @@ pub(crate) fn obey<D: Declares>(
     command: &Command,
     fuel: &mut Fuel,
 ) -> Result<Deed, Stop>
-    ensures answer { Meets result (left fuel.new) (obey_with env.now command.now fuel.old) }
+    ensures answer { Does result fuel.old fuel.new (obey_with env.now command.now) }
     ensures kept { IsSpentOf fuel.old fuel.new }
 {
     match command.form() {

@@ -5,11 +5,11 @@ ghost use Rattle.base_core.specs.Answers.{Gives};
 ghost use Rattle.cic_rules.specs.Contexts.{AreParams};
 ghost use Rattle.cic_rules.specs.Eliminators.{type_of_decl};
 ghost use Rattle.cic_rules.specs.Environments.{entered, IsNew, MayEnter};
-ghost use Rattle.cic_rules.specs.Fuel.{left, IsSpentOf};
-ghost use Rattle.cic_rules.specs.Judges.{MayJudge, IsTermIn, Meets};
+ghost use Rattle.cic_rules.specs.Fuel.{IsSpentOf};
+ghost use Rattle.cic_rules.specs.Judges.{MayJudge, IsTermIn};
 ghost use Rattle.inductive_check.specs.Steps.{assumption_of, sized};
 ghost use Rattle.vernac_exec.specs.Families.{family};
-ghost use Rattle.vernac_exec.specs.Calls.{params_with, ctor_with, constructors_with, assumed_in, rest_with, family_with, induct_with, induct_new_with};
+ghost use Rattle.vernac_exec.specs.Calls.{Does, params_with, ctor_with, constructors_with, assumed_in, rest_with, family_with, induct_with, induct_new_with};
 
 use crate::deed::Deed;
 use crate::entering::{close_over, declare_as, refusal};
@@ -35,20 +35,20 @@ pub(crate) fn induct<D: Declares>(
     name: &Text,
     groups: &[Group],
     arity: &SurfaceTerm,
-    constructors: &[Constructor],
+    ctors: &[Constructor],
     fuel: &mut Fuel,
 ) -> Result<Deed, Stop>
-    ensures answer { Meets result (left fuel.new) (induct_with env.now name.now groups.now arity.now constructors.now fuel.old) }
+    ensures answer { Does result fuel.old fuel.new (induct_with env.now name.now groups.now arity.now ctors.now) }
     ensures kept { IsSpentOf fuel.old fuel.new }
 {
-    let names = written_names(alloc, name, constructors)?;
+    let names = written_names(alloc, name, ctors)?;
     if has_twice(alloc, names.as_slice())? {
         return Err(refusal(DUPLICATE_NAME));
     }
     if any_taken(env, names.as_slice()) {
         return Err(refusal(NAME_TAKEN));
     }
-    induct_new(judge, alloc, env, name, groups, arity, constructors, fuel)
+    induct_new(judge, alloc, env, name, groups, arity, ctors, fuel)
 }
 
 /// The same of a type whose names are free.
@@ -59,16 +59,16 @@ fn induct_new<D: Declares>(
     name: &Text,
     groups: &[Group],
     arity: &SurfaceTerm,
-    constructors: &[Constructor],
+    ctors: &[Constructor],
     fuel: &mut Fuel,
 ) -> Result<Deed, Stop>
     requires { IsNew env.now name.now }
-    ensures answer { Meets result (left fuel.new) (induct_new_with env.now name.now groups.now arity.now constructors.now fuel.old) }
+    ensures answer { Does result fuel.old fuel.new (induct_new_with env.now name.now groups.now arity.now ctors.now) }
     ensures kept { IsSpentOf fuel.old fuel.new }
 {
     let params = open_params(judge, alloc, env, groups, fuel)?;
     let arity = elab(judge, alloc, env, &params, arity, fuel)?;
-    elab_family(judge, alloc, env, name, &params, arity, constructors, fuel)
+    elab_family(judge, alloc, env, name, &params, arity, ctors, fuel)
 }
 
 /// The context of the parameters, none of which has a definition.
@@ -79,7 +79,7 @@ fn open_params<J: Judge>(
     groups: &[Group],
     fuel: &mut Fuel,
 ) -> Result<Context, Stop>
-    ensures answer { Meets result (left fuel.new) (params_with env.now groups.now fuel.old) }
+    ensures answer { Does result fuel.old fuel.new (params_with env.now groups.now) }
     ensures judged { IfOk result (λ params. MayJudge env.now params) }
     ensures plain { IfOk result AreParams }
     ensures kept { IsSpentOf fuel.old fuel.new }
@@ -97,28 +97,18 @@ fn elab_family<D: Declares>(
     name: &Text,
     params: &Context,
     arity: Term,
-    constructors: &[Constructor],
+    ctors: &[Constructor],
     fuel: &mut Fuel,
 ) -> Result<Deed, Stop>
     requires new { IsNew env.now name.now }
     requires judged { MayJudge env.now params.now }
     requires arity { IsTermIn env.now params.now arity }
     requires plain { AreParams params.now }
-    ensures answer { Meets result (left fuel.new) (family_with env.now name.now params.now arity constructors.now fuel.old) }
+    ensures answer { Does result fuel.old fuel.new (family_with env.now name.now params.now arity ctors.now) }
     ensures kept { IsSpentOf fuel.old fuel.new }
 {
     let inner = assumed(alloc, env, name, params, &arity)?;
-    declare_family(
-        judge,
-        alloc,
-        env,
-        &inner,
-        name,
-        params,
-        arity,
-        constructors,
-        fuel,
-    )
+    declare_family(judge, alloc, env, &inner, name, params, arity, ctors, fuel)
 }
 
 /// The environment with a type as an assumption.
@@ -173,17 +163,17 @@ fn declare_family<D: Declares>(
     name: &Text,
     params: &Context,
     arity: Term,
-    constructors: &[Constructor],
+    ctors: &[Constructor],
     fuel: &mut Fuel,
 ) -> Result<Deed, Stop>
     requires judged { MayJudge inner.now params.now }
     requires plain { AreParams params.now }
-    ensures answer { Meets result (left fuel.new) (rest_with env.now inner.now name.now params.now arity constructors.now fuel.old) }
+    ensures answer { Does result fuel.old fuel.new (rest_with env.now inner.now name.now params.now arity ctors.now) }
     ensures kept { IsSpentOf fuel.old fuel.new }
 {
     let place = env.len();
-    let ctors = elab_constructors(judge, alloc, inner, params, place, constructors, fuel)?;
-    let decl = family(alloc, name, params, arity, ctors)?;
+    let made = elab_constructors(judge, alloc, inner, params, place, ctors, fuel)?;
+    let decl = family(alloc, name, params, arity, made)?;
     declare_as(judge, alloc, env, ItemKind::Inductive, &decl, fuel)
 }
 
@@ -198,7 +188,7 @@ fn elab_constructors<J: Judge>(
     fuel: &mut Fuel,
 ) -> Result<CtorList, Stop>
     requires { MayJudge env.now params.now }
-    ensures answer { Meets result (left fuel.new) (constructors_with env.now params.now place constructors.now fuel.old) }
+    ensures answer { Does result fuel.old fuel.new (constructors_with env.now params.now place constructors.now) }
     ensures kept { IsSpentOf fuel.old fuel.new }
 {
     let mut ctors = List::new(alloc);
@@ -222,7 +212,7 @@ fn ctor_of<J: Judge>(
     fuel: &mut Fuel,
 ) -> Result<Ctor, Stop>
     requires { MayJudge env.now params.now }
-    ensures answer { Meets result (left fuel.new) (ctor_with env.now params.now place constructor.now fuel.old) }
+    ensures answer { Does result fuel.old fuel.new (ctor_with env.now params.now place constructor.now) }
     ensures kept { IsSpentOf fuel.old fuel.new }
 {
     let name = constructor.name.text.share()?;

@@ -4,8 +4,9 @@ ghost use Rattle.std.specs.Ordering.{nat_cmp};
 ghost use Rattle.std.specs.Cmp.Lexicographic.{slice_cmp};
 ghost use Rattle.shared_map.specs.Entries.{look};
 ghost use Rattle.coq_syntax.specs.Forms.{constructors_of};
-ghost use Rattle.cic_rules.specs.Inductive.{ctor_names, has_twice, any_taken};
-ghost use Rattle.vernac_exec.specs.Families.{named_ctors, written_names};
+ghost use Rattle.cic_rules.specs.Inductive.{has_twice, any_taken};
+ghost use Rattle.vernac_exec.specs.Families.{written_names};
+ghost use Rattle.vernac_exec.specs.Calls.{constructor_names};
 
 use base_core::{NoMem, Text};
 use cic_rules::GlobalEnv;
@@ -31,7 +32,7 @@ pub(crate) fn written_names(
 }
 
 fn add_constructors(constructors: &[Constructor], names: &mut Vec<Text>) -> Result<(), NoMem>
-    ensures { OnOk result (names.new.items ≡ names.old.items ++ ctor_names (named_ctors (constructors_of constructors.now))) }
+    ensures { OnOk result (names.new.items ≡ names.old.items ++ constructor_names constructors.now) }
 {
     for constructor in constructors {
         names.push(constructor.name.text.share()?)?;

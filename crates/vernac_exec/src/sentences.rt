@@ -1,9 +1,8 @@
 //! Sentences: their kind is judged first, then they are read, then obeyed.
 ghost use Rattle.std.specs.Prelude.{◌^◌, ◌<◌, length};
 ghost use Rattle.base_core.specs.Fit.{IsFit};
-ghost use Rattle.cic_rules.specs.Fuel.{left, IsSpentOf};
-ghost use Rattle.cic_rules.specs.Judges.{Meets};
-ghost use Rattle.vernac_exec.specs.Calls.{tokens_with, sentence_with};
+ghost use Rattle.cic_rules.specs.Fuel.{IsSpentOf};
+ghost use Rattle.vernac_exec.specs.Calls.{Does, tokens_with, sentence_with};
 
 use crate::commands::obey;
 use crate::deed::Deed;
@@ -25,7 +24,7 @@ fn obey_tokens<D: Declares>(
     tokens: &TokenList,
     fuel: &mut Fuel,
 ) -> Result<Deed, Stop>
-    ensures answer { Meets result (left fuel.new) (tokens_with env.now tokens.now fuel.old) }
+    ensures answer { Does result fuel.old fuel.new (tokens_with env.now tokens.now) }
     ensures kept { IsSpentOf fuel.old fuel.new }
 {
     if is_command(tokens) {
@@ -48,7 +47,7 @@ pub(crate) fn sentence_run<D: Declares>(
 ) -> Result<Deed, Stop>
     requires fit { IsFit kind text.now }
     requires short { length text.now < 2 ^ 32 }
-    ensures answer { Meets result (left fuel.new) (sentence_with env.now kind text.now fuel.old) }
+    ensures answer { Does result fuel.old fuel.new (sentence_with env.now kind text.now) }
     ensures kept { IsSpentOf fuel.old fuel.new }
 {
     match kind {
