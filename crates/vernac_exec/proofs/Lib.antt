@@ -9,3 +9,6 @@ pub mod StandsOfSentences
 pub mod ProverLaws
 pub mod ListedAxioms
 pub mod ShownRows
+pub mod FamilyLaws
+pub mod NameLaws
+pub mod ExecLaws

@@ -1,9 +1,7 @@
 -- One sentence in a state: the state behind it, what is told of it, and what it costs.
-use Rattle.std.specs.Prelude.{◌≡◌, ℕ, ◌+◌, ◌-◌, ◌<◌, ◌≤◌, List}
+use Rattle.std.specs.Prelude.{ℕ, ◌+◌, ◌-◌, List}
 use Rattle.base_core.specs.declared.limits.TheConstants.{UNIT_LIMIT}
 use Rattle.prover_iface.specs.declared.diagnostics.RelDiag.{RelDiag}
-use Rattle.prover_iface.specs.declared.prover.Outcome.{Outcome}
-use Rattle.prover_iface.specs.declared.prover.Outcome.TheVariants.{Done, Interrupted}
 use Rattle.prover_iface.specs.Sentences.{Sentence}
 use Rattle.cic_rules.specs.Fuel.{NESTING_LIMIT}
 use Rattle.cic_rules.specs.Runs.{Ran}
@@ -26,8 +24,3 @@ after m s = behind m (whole_run m s).answer
 
 abbrev pub diagnosed : ProverState → Sentence → List RelDiag
 diagnosed m s = told s.text (whole_run m s).answer
-
--- a sentence is done exactly where its cost is at most the units, and then gives that state, those diagnostics and that cost
-abbrev pub AnswersSentence : ProverState → Sentence → ℕ → Outcome ProverState → Type 0
-AnswersSentence m s units (Done state diags c) = (cost m s ≤ units) × (state ≡ after m s) × (diags ≡ diagnosed m s) × (c ≡ cost m s)
-AnswersSentence m s units Interrupted = units < cost m s

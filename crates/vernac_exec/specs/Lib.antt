@@ -8,3 +8,5 @@ pub mod Outline
 pub mod Laws
 pub mod ProverLaws
 pub mod Listed
+pub mod Calls
+pub mod Answers

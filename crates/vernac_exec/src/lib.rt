@@ -3,12 +3,17 @@
 #![tactic(auto)]
 
 mod axioms;
+mod commands;
 mod deed;
 mod diagnostics;
+mod entering;
 mod exec;
+mod families;
 mod laws;
+mod names;
 mod outline;
 mod prover_laws;
+mod sentences;
 mod state;
 
 pub use deed::Deed;
