@@ -1,5 +1,4 @@
-pub mod Axioms
-pub mod States
-pub mod Verdicts
+pub mod Prelude
+pub mod First
 pub mod Exec
 pub mod Laws

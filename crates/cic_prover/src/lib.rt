@@ -1,10 +1,9 @@
-//! The prover: what a sentence declares, and why it is refused.
+//! The prover: what a sentence declares or answers, and why it is refused, from the state that the
+//! prelude leaves.
 #![tactic(auto)]
 
-mod axioms;
+mod first;
+mod prelude;
 mod prover;
-mod states;
-mod verdicts;
 
 pub use prover::CicProver;
-pub use states::AxiomState;

@@ -1,15 +1,16 @@
 //! The prover, as every prover is called.
-ghost use Rattle.cic_prover.specs.States.{Declared};
+ghost use Rattle.vernac_exec.specs.declared.state.ProverState.{ProverState};
 ghost use Rattle.cic_prover.specs.Exec.{means};
 
-use crate::AxiomState;
-use crate::verdicts::{cost_of, diagnostics_of, next, verdict_of};
+use crate::first::first;
 use base_core::{Kind, NoMem, Steps};
 use prover_iface::{GoalsView, Outcome, OutlineList, Prover};
 use std::alloc::Global;
 use std::sync::ledger::Ledger;
+use vernac_exec::{ProverState, exec_sentence};
 
-/// The prover of documents in a fragment of the Rocq vernacular. It runs axioms of `Prop` and `Set`.
+/// The prover of documents in a fragment of the Rocq vernacular. It runs every command that needs no
+/// proof.
 #[derive(Clone, Copy, Debug)]
 pub struct CicProver;
 
@@ -20,66 +21,57 @@ impl CicProver {
 }
 
 impl Prover for CicProver {
-    type State = AxiomState;
+    type State = ProverState;
 
-    ghost use Rattle.cic_prover.specs.Laws.{cost-le, diagnosed-placed, declared-past};
+    ghost use Rattle.cic_prover.specs.Laws.{costs_fit, told_within, declared_past};
 
-    ghost Meaning = { Declared };
+    ghost Meaning = { ProverState };
 
     ghost meaning = { λ s. s };
 
     ghost means = { means };
 
-    ghost bounded = { cost-le };
+    ghost bounded = { costs_fit };
 
-    ghost placed = { diagnosed-placed };
+    ghost placed = { told_within };
 
     ghost opened_before = { λ _. tt };
 
-    ghost declared_before = { declared-past };
+    ghost declared_before = { declared_past };
 
     fn initial<C: Ledger>(
         &self,
-        _alloc: Global,
-        _steps: &mut Steps<C>,
-    ) -> Result<AxiomState, NoMem> {
-        Ok(AxiomState::empty())
+        alloc: Global,
+        steps: &mut Steps<C>,
+    ) -> Result<ProverState, NoMem> {
+        first(alloc, steps)
     }
 
-    fn share(&self, state: &AxiomState) -> Result<AxiomState, NoMem> {
+    fn share(&self, state: &ProverState) -> Result<ProverState, NoMem> {
         state.share()
     }
 
     fn exec<C: Ledger>(
         &self,
         alloc: Global,
-        state: &AxiomState,
+        state: &ProverState,
         kind: Kind,
         text: &str,
         units: u32,
         steps: &mut Steps<C>,
-    ) -> Result<Outcome<AxiomState>, NoMem> {
-        let verdict = verdict_of(alloc, state, kind, text)?;
-        let cost = cost_of(&verdict);
-        if units < cost {
-            steps.rise(u64::from(units));
-            return Ok(Outcome::Interrupted);
-        }
-        steps.rise(u64::from(cost));
-        let diags = diagnostics_of(alloc, &verdict, text)?;
-        let state = next(alloc, state, verdict)?;
-        Ok(Outcome::Done { state, diags, cost })
+    ) -> Result<Outcome<ProverState>, NoMem> {
+        exec_sentence(alloc, state, kind, text, units, steps)
     }
 
-    fn left_open(&self, _state: &AxiomState) -> Option<u32> {
+    fn left_open(&self, _state: &ProverState) -> Option<u32> {
         None
     }
 
-    fn goals(&self, _alloc: Global, _state: &AxiomState) -> Result<Option<GoalsView>, NoMem> {
+    fn goals(&self, _alloc: Global, _state: &ProverState) -> Result<Option<GoalsView>, NoMem> {
         Ok(None)
     }
 
-    fn outline(&self, alloc: Global, state: &AxiomState) -> Result<OutlineList, NoMem> {
+    fn outline(&self, alloc: Global, state: &ProverState) -> Result<OutlineList, NoMem> {
         state.outline(alloc)
     }
 }

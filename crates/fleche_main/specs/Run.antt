@@ -27,7 +27,7 @@ pub record Ends (outcome : Outcome) (status : ℕ) (old new : Option (List ℕ))
   pub whole : status ≢ 4 → status ≢ 5 → new ≡ appended old outcome.bytes
   pub begun : Begins old new outcome.bytes
 
--- what checking a document gives, by the prover of axioms
+-- what checking a document gives
 abbrev pub document_report : List ℕ → Report
 document_report text = checked means text
 

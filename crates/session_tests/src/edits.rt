@@ -121,7 +121,7 @@ const ROWS: [Row; 19] = [
             Left(1, 0, 31),
             Clean(1),
             Left(2, 0, 30),
-            Refused(2, 15, "not built yet", 0, 30),
+            Refused(2, 10, "unexpected token", 14, 15),
         ],
     ),
     // A list that is refused changes nothing, the version included.

@@ -2,3 +2,13 @@ pub mod FuelOfExec
 pub mod UnitLaws
 pub mod StateLaws
 pub mod Samples
+pub mod StandsLaws
+pub mod StandsOfKernel
+pub mod StandsOfElab
+pub mod StandsOfSentences
+pub mod ProverLaws
+pub mod ListedAxioms
+pub mod ShownRows
+pub mod FamilyLaws
+pub mod NameLaws
+pub mod ExecLaws

@@ -6,3 +6,7 @@ pub mod Diagnostics
 pub mod Exec
 pub mod Outline
 pub mod Laws
+pub mod ProverLaws
+pub mod Listed
+pub mod Calls
+pub mod Answers

@@ -64,7 +64,7 @@ fn rows_are_written(rt: HostRuntime) -> Result<(), Fail> {
         (
             "Check A.\n- Axiom B : Set",
             8,
-            "a.v:1:1: error 15: not built yet\na.v:2:1: error 54: no proof is open\na.v:2:3: error 14: unfinished sentence\na.v: end 3 errors 0 admissions\n",
+            "a.v:1:7: error 40: unknown name\na.v:2:1: error 54: no proof is open\na.v:2:3: error 14: unfinished sentence\na.v: end 3 errors 0 admissions\n",
         ),
         (
             "(* \"*)\" *) Axiom A : Prop.",
@@ -79,7 +79,7 @@ fn rows_are_written(rt: HostRuntime) -> Result<(), Fail> {
         (
             "Axiom in : Prop. Axiom B : Type. Axiom C : Prop.Axiom D : Prop.",
             8,
-            "a.v:1:1: error 15: not built yet\na.v:1:18: error 15: not built yet\na.v:1:34: error 15: not built yet\na.v: end 3 errors 0 admissions\n",
+            "a.v:1:7: error 10: unexpected token\na.v:1:48: error 10: unexpected token\na.v: axiom B : Type\na.v: end 2 errors 0 admissions\n",
         ),
     ];
     for (text, status, written) in rows {

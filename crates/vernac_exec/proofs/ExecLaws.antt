@@ -1,0 +1,102 @@
+-- What one run with the units that are handed in tells of a sentence.
+use Rattle.std.proofs.Common.{◌≡◌, ℕ, ◌+◌, ◌-◌, ◌<◌, ◌≤◌, min, List, true, false, Result, Ok, Err, refl, sym, ap, subst, ◌∙◌, arith}
+use Rattle.std.proofs.lemmas.Bool.Decides.{nat_tests}
+use Rattle.base_core.specs.declared.kind.Kind.{Kind}
+use Rattle.base_core.specs.declared.limits.TheConstants.{UNIT_LIMIT}
+use Rattle.base_core.specs.declared.refusals.Stop.{Stop}
+use Rattle.base_core.specs.declared.refusals.Stop.TheVariants.{Refused, Out, NoMem}
+use Rattle.base_core.specs.declared.refusals.Limit.TheVariants.{StepLimit, DepthLimit, SizeLimit}
+use Rattle.prover_iface.specs.Sentences.{Sentence, sentence}
+use Rattle.cic_rules.specs.Fuel.{FuelState, NESTING_LIMIT, full}
+use Rattle.cic_rules.specs.Judges.{Meets}
+use Rattle.cic_rules.specs.Runs.{Ran}
+use Rattle.vernac_exec.specs.declared.deed.Deed.{Deed}
+use Rattle.vernac_exec.specs.declared.state.ProverState.{ProverState}
+use Rattle.vernac_exec.specs.Sentences.{sentence_run}
+use Rattle.vernac_exec.specs.States.{behind}
+use Rattle.vernac_exec.specs.Diagnostics.{told}
+use Rattle.vernac_exec.specs.Exec.{whole_run, cost, after, diagnosed}
+use Rattle.vernac_exec.specs.Laws.{grant, granted_run, HadEnough, IsDecided}
+use Rattle.vernac_exec.specs.Answers.{is_want, is_starved}
+use Rattle.vernac_exec.specs.Calls.{sentence_with}
+use Rattle.vernac_exec.proofs.UnitLaws.{one_run_decides}
+
+answered : (answer : Result Deed Stop) (l : ℕ) (ran : Ran Deed) → is_want answer ≡ false → Meets answer l ran → (answer ≡ ran.answer) × (l ≡ ran.left)
+answered (Ok x) l ran served met = met
+answered (Err (Refused r)) l ran served met = met
+answered (Err (Out limit)) l ran served met = met
+answered (Err NoMem) l ran served met = absurd (cc)
+
+starved_is : (answer : Result Deed Stop) (g : ℕ) → is_starved answer g ≡ true → (answer ≡ Err (Out StepLimit)) × (g < UNIT_LIMIT)
+starved_is (Ok x) g e = absurd (cc)
+starved_is (Err (Refused r)) g e = absurd (cc)
+starved_is (Err (Out StepLimit)) g e = (refl, grind (arith, nat_tests, e))
+starved_is (Err (Out DepthLimit)) g e = absurd (cc)
+starved_is (Err (Out SizeLimit)) g e = absurd (cc)
+starved_is (Err NoMem) g e = absurd (cc)
+
+fed_is : (answer : Result Deed Stop) (g : ℕ) → is_starved answer g ≡ false → g ≤ UNIT_LIMIT → answer ≡ Err (Out StepLimit) → g ≡ UNIT_LIMIT
+fed_is (Ok x) g e most is = absurd (cc)
+fed_is (Err (Refused r)) g e most is = absurd (cc)
+fed_is (Err (Out StepLimit)) g e most is = grind (arith, nat_tests, e, most)
+fed_is (Err (Out DepthLimit)) g e most is = absurd (cc)
+fed_is (Err (Out SizeLimit)) g e most is = absurd (cc)
+fed_is (Err NoMem) g e most is = absurd (cc)
+
+granted_most : (units n : ℕ) → min (units - 1) n ≤ n
+granted_most units n = omega arith
+
+none_off : (n : ℕ) → n - 0 ≡ n
+none_off n = omega arith
+
+-- the run that was made
+granted_met : (m : ProverState) (kind : Kind) (text : List ℕ) (units g l : ℕ) (f : FuelState) (answer : Result Deed Stop) → f ≡ full g → g ≡ grant units →
+    Meets answer l (sentence_with m.env kind text f) → Meets answer l (granted_run m (sentence kind text) units)
+granted_met m kind text units g l f answer fresh given met =
+    let P : FuelState → Type 0 = λ x. Meets answer l (sentence_with m.env kind text x) in
+    let Q : ℕ → Type 0 = λ n. Meets answer l (sentence_run m.env NESTING_LIMIT kind text n) in
+    subst Q (none_off (grant units)) (subst P (fresh ∙ ap full given) met)
+
+-- the sentence was interrupted
+pub exec_short : (m : ProverState) (kind : Kind) (text : List ℕ) (units g l : ℕ) (f : FuelState) (answer : Result Deed Stop) → 1 ≤ units → f ≡ full g →
+    g ≡ grant units → is_want answer ≡ false → Meets answer l (sentence_with m.env kind text f) → is_starved answer g ≡ true →
+    units < cost m (sentence kind text)
+exec_short m kind text units g l f answer one fresh given served met starved =
+    let same = answered answer l (granted_run m (sentence kind text) units) served (granted_met m kind text units g l f answer fresh given met) in
+    let ended = starved_is answer g starved in
+    (one_run_decides m (sentence kind text) units one).short (sym same.0 ∙ ended.0) (subst (λ n. n < UNIT_LIMIT) given ended.1)
+
+-- it was done
+pub record IsDone (m : ProverState) (s : Sentence) (units left : ℕ) (answer : Result Deed Stop) : Type 0 where
+  pub fits : cost m s ≤ units
+  pub state : behind m answer ≡ after m s
+  pub diags : told s.text answer ≡ diagnosed m s
+  pub spent : 1 + (grant units - left) ≡ cost m s
+
+pub exec_done : (m : ProverState) (kind : Kind) (text : List ℕ) (units g l : ℕ) (f : FuelState) (answer : Result Deed Stop) → 1 ≤ units → f ≡ full g →
+    g ≡ grant units → is_want answer ≡ false → Meets answer l (sentence_with m.env kind text f) → is_starved answer g ≡ false →
+    IsDone m (sentence kind text) units l answer
+exec_done m kind text units g l f answer one fresh given served met fed =
+    let s = sentence kind text in
+    let same = answered answer l (granted_run m s units) served (granted_met m kind text units g l f answer fresh given met) in
+    let enough : HadEnough m s units =
+    λ e. fed_is answer (grant units) (subst (λ n. is_starved answer n ≡ false) given fed) (granted_most units UNIT_LIMIT) (same.0 ∙ e) in
+    let decided : IsDecided m s units = one_run_decides m s units one in
+    let whole : answer ≡ (whole_run m s).answer = same.0 ∙ decided.answer enough in
+    record {
+      fits = decided.fits enough;
+      state = ap (behind m) whole;
+      diags = ap (told s.text) whole;
+      spent = ap (λ n. 1 + (grant units - n)) same.1 ∙ decided.spent enough;
+    }
+
+-- what was spent, and the sentence's own unit
+pub spent_is : (limit spent given total : ℕ) → limit ≡ given → spent ≤ limit → 1 + (given - (limit - spent)) ≡ total → spent + 1 ≡ total
+spent_is limit spent given total same within is = omega (arith, same, within, is)
+
+-- the work that is counted
+pub short_work : (now before units total : ℕ) → now ≡ before + units → units < total → now ≡ before + min total units
+short_work now before units total is short = omega (arith, is, short)
+
+pub done_work : (now before units spent total : ℕ) → now ≡ before + spent → spent ≡ total → total ≤ units → now ≡ before + min total units
+done_work now before units spent total is same fits = omega (arith, is, same, fits)
