@@ -5,5 +5,7 @@
 mod first;
 mod prelude;
 mod prover;
+mod soundness;
 
 pub use prover::CicProver;
+pub use soundness::law_of_soundness;

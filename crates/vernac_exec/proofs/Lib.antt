@@ -12,3 +12,4 @@ pub mod ShownRows
 pub mod FamilyLaws
 pub mod NameLaws
 pub mod ExecLaws
+pub mod SoundStates

@@ -10,3 +10,4 @@ pub mod ProverLaws
 pub mod Listed
 pub mod Calls
 pub mod Answers
+pub mod Soundness

@@ -14,6 +14,7 @@ mod names;
 mod outline;
 mod prover_laws;
 mod sentences;
+mod soundness;
 mod state;
 
 pub use deed::Deed;
@@ -21,4 +22,5 @@ pub use diagnostics::diagnostics_of;
 pub use exec::exec_sentence;
 pub use laws::{law_of_states, law_of_units};
 pub use prover_laws::law_of_prover;
+pub use soundness::law_of_soundness;
 pub use state::{ProverState, Row};
