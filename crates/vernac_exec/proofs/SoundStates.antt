@@ -1,5 +1,5 @@
 -- What a sentence leaves is sound.
-use Rattle.std.proofs.Common.{◌≡◌, ℕ, zero, suc, ◌+◌, ◌^◌, ◌<◌, nat_le, List, [], ◌∷◌, ◌++◌, length, Bool, true, false, Option, Some, None, Result, Ok, Err, refl, sym, ◌∙◌, subst, ap, All, arith}
+use Rattle.std.proofs.Common.{◌≡◌, ℕ, zero, suc, ◌+◌, ◌^◌, ◌<◌, nat_le, List, [], ◌∷◌, ◌++◌, length, Bool, true, false, Option, Some, None, Result, Ok, Err, refl, sym, ◌∙◌, subst, All, arith}
 use Rattle.std.specs.Prelude.{if◌then◌else◌}
 use Rattle.std.proofs.lemmas.List.Elements.{All-push}
 use Rattle.base_core.specs.declared.kind.Kind.{Kind}
@@ -10,7 +10,6 @@ use Rattle.base_core.specs.declared.refusals.Stop.TheVariants.{Out}
 use Rattle.base_core.specs.declared.refusals.Limit.TheVariants.{SizeLimit}
 use Rattle.prover_iface.specs.declared.outline.ItemKind.{ItemKind}
 use Rattle.prover_iface.specs.declared.outline.ItemKind.TheVariants as item
-use Rattle.prover_iface.specs.Sentences.{Sentence as Piece}
 use Rattle.coq_syntax.specs.Trees.{Term, GroupList, Annotation}
 use Rattle.coq_syntax.specs.CommandTrees.{Constructor, Command}
 use Rattle.coq_syntax.specs.CommandTrees as command
@@ -36,7 +35,6 @@ use Rattle.cic_rules.specs.Laws.{Tells}
 use Rattle.cic_rules.specs.Runs.{Run, give, check_size, forbid}
 use Rattle.cic_rules.specs.WellFormed.{WfEnv}
 use Rattle.cic_rules.proofs.TellsLaws.{tells_give, tells_pure, tells_stop, tells_bind, tells_step}
-use Rattle.cic_soundness.specs.Laws.{EntriesAreGrounded}
 use Rattle.cic_soundness.proofs.DeclareSound.{declare_keeps_form}
 use Rattle.cic_soundness.proofs.GroundedSound.{entries_are_grounded}
 use Rattle.elaborator.specs.Elab.{elab, open_groups}
@@ -50,7 +48,7 @@ use Rattle.vernac_exec.specs.Commands.{judgement_text, declare_as, assume, elab_
 use Rattle.vernac_exec.specs.Sentences.{obey_read, sentence_run}
 use Rattle.vernac_exec.specs.States.{next_row, behind}
 use Rattle.vernac_exec.specs.Exec.{whole_run}
-use Rattle.vernac_exec.specs.Soundness.{is_taken_for_granted, IsRowIn, IsSound, rests_on, AreGrounded, StatesAreSound}
+use Rattle.vernac_exec.specs.Soundness.{is_taken_for_granted, IsRowIn, IsSound, StatesAreSound}
 
 any : {A : Type 0} (f : Run A) → Tells f (λ _. Unit {0})
 any f = record { tells = λ left x e. tt }
