@@ -1,7 +1,7 @@
 //! Why a row has no answer.
 use base_core::NoMem;
 use core_term::TermStop;
-use std::alloc::AllocError;
+use std::alloc::{AllocError, AllocFailed};
 use thiserror::Error;
 
 /// Why a row has no answer.
@@ -22,6 +22,12 @@ pub enum Fault {
 
 impl From<NoMem> for Fault {
     fn from(_error: NoMem) -> Fault {
+        Fault::NoMem
+    }
+}
+
+impl<T: Drop> From<AllocFailed<T>> for Fault {
+    fn from(_error: AllocFailed<T>) -> Fault {
         Fault::NoMem
     }
 }

@@ -65,8 +65,16 @@ pub fn add_term(text: &mut String, t: &Term) -> Result<(), AllocError> {
             domain,
             codomain,
             ..
-        } => add_two(text, domain, codomain, ">"),
-        Node::Lam { domain, body, .. } => add_two(text, domain, body, "!"),
+        } => {
+            add_term(text, domain)?;
+            add_term(text, codomain)?;
+            text.push('>')
+        }
+        Node::Lam { domain, body, .. } => {
+            add_term(text, domain)?;
+            add_term(text, body)?;
+            text.push('!')
+        }
         Node::LetIn {
             ty,
             value,
@@ -74,16 +82,16 @@ pub fn add_term(text: &mut String, t: &Term) -> Result<(), AllocError> {
             ..
         } => {
             add_term(text, ty)?;
-            add_two(text, value, body, "=")
+            add_term(text, value)?;
+            add_term(text, body)?;
+            text.push('=')
         }
-        Node::App { function, argument } => add_two(text, function, argument, "@"),
+        Node::App { function, argument } => {
+            add_term(text, function)?;
+            add_term(text, argument)?;
+            text.push('@')
+        }
     }
-}
-
-fn add_two(text: &mut String, first: &Term, second: &Term, sign: &str) -> Result<(), AllocError> {
-    add_term(text, first)?;
-    add_term(text, second)?;
-    write!(text, "{sign}")
 }
 
 fn add_sort(text: &mut String, sort: Sort) -> Result<(), AllocError> {
