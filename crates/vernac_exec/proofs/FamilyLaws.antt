@@ -1,4 +1,4 @@
--- Inductive types as they are written: their types, their parameters, and their constructors one by one.
+-- Inductive types as they are written: their types and their parameters.
 use Rattle.std.proofs.Common.{◌≡◌, ℕ, zero, suc, ◌-◌, ◌<◌, ◌≤◌, List, [], ◌∷◌, ◌++◌, length, drop, slice_get, Bool, true, false, Some, None, Result, Ok, Err, refl, sym, ap, subst, ◌∙◌, arith, drop-cons}
 use Rattle.std.specs.Prelude.{if◌then◌else◌, reverse, IfOk}
 use Rattle.std.proofs.lemmas.Grind.{reverse_onto}

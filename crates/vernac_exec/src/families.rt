@@ -1,6 +1,6 @@
 //! Inductive types as they are written: names first, then the parameters, the arity and the
 //! constructors from left to right, then the kernel.
-ghost use Rattle.std.specs.Prelude.{◌≡◌, [], length, reverse, IfOk};
+ghost use Rattle.std.specs.Prelude.{◌≡◌, [], reverse, IfOk};
 ghost use Rattle.base_core.specs.Answers.{Gives};
 ghost use Rattle.cic_rules.specs.Contexts.{AreParams};
 ghost use Rattle.cic_rules.specs.Eliminators.{type_of_decl};
