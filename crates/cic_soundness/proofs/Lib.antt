@@ -1,0 +1,10 @@
+pub mod ConvLaws
+pub mod ConvSound
+pub mod DeclareSound
+pub mod FamilySound
+pub mod GroundedSound
+pub mod Growth
+pub mod InferSound
+pub mod IotaLaws
+pub mod ReduceSound
+pub mod Samples

@@ -1,0 +1,5 @@
+pub mod Lowering
+pub mod Patterns
+pub mod Match
+pub mod Scopes
+pub mod Laws
