@@ -1,0 +1,6 @@
+pub mod Numbers
+pub mod HoleLaws
+pub mod Stands
+pub mod Tables
+pub mod Counts
+pub mod Keeps

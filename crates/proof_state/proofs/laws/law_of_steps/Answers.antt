@@ -1,0 +1,13 @@
+use Rattle.proof_state.proofs.Keeps.{steps_keep, steps_keep_goals, whole_where_solved}
+use Rattle.proof_state.proofs.Stands.{filled_stands}
+use Rattle.proof_state.proofs.Tables.{table_more}
+use Rattle.proof_state.proofs.laws.law_of_steps.Goals as goal
+
+pub returns-clause-proofs : goal.returns-clause-proofs
+returns-clause-proofs c = steps_keep
+
+pub returns-clause-goals : goal.returns-clause-goals
+returns-clause-goals c = steps_keep_goals
+
+pub returns-clause-whole : goal.returns-clause-whole
+returns-clause-whole c = whole_where_solved
