@@ -4,3 +4,5 @@ pub mod Stands
 pub mod Tables
 pub mod Counts
 pub mod Keeps
+pub mod States
+pub mod Closes

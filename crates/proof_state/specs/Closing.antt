@@ -24,9 +24,9 @@ abbrev pub applied : Option Tree → Option Tree → Option Tree
 applied None a = None
 applied (Some f) a = around (App f) a
 
--- the term with these terms at its holes, where none of its parts is too large
+-- the term with these terms at its holes, where no part of it is too large
 abbrev pub plugged_if_small : {H : Type 0} → (H → Option Tree) → Partial H → Option Tree
-plugged_if_small at (Ready t) = Some t
+plugged_if_small at (Ready t) = if_small t
 plugged_if_small at (Hole h) = at h
 plugged_if_small at (Abstracts n a p) = around (Lam n a) (plugged_if_small at p)
 plugged_if_small at (Defines n a t p) = around (LetIn n a t) (plugged_if_small at p)

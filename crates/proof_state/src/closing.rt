@@ -25,7 +25,9 @@ pub(crate) fn whole(alloc: Global, parts: &SharedList<Part>) -> Result<Option<Te
     ensures { IfOk result (λ t. t ≡ term_of 0 (terms_from 0 parts.now) 0) }
 {
     let mut terms = SharedList::empty();
-    for number in (0..parts.len()).rev() {
+    let mut number = parts.len();
+    while number > 0 {
+        number -= 1;
         terms = with_part(alloc, parts, number, &terms)?;
     }
     term_at(&terms, 0)
@@ -63,6 +65,7 @@ fn plugged(
 {
     match sketch.node() {
         SketchNode::Ready(term) => {
+            let _depth = term.depth();
             let term = term.share()?;
             Ok(Some(term))
         }
@@ -92,11 +95,20 @@ fn term_at(terms: &Terms, at: usize) -> Result<Option<Term>, NoMem>
     ensures { IfOk result (λ t. t ≡ term_of 0 terms.now at) }
 {
     match terms.get(at) {
-        Some(Some(term)) => {
+        Some(term) => share_term(term),
+        None => Ok(None),
+    }
+}
+
+fn share_term(term: &Option<Term>) -> Result<Option<Term>, NoMem>
+    ensures { IfOk result (λ t. t ≡ term.now) }
+{
+    match term {
+        Some(term) => {
             let term = term.share()?;
             Ok(Some(term))
         }
-        _ => Ok(None),
+        None => Ok(None),
     }
 }
 
@@ -169,6 +181,7 @@ pub(crate) fn abstracted(alloc: Global, hyps: &Context, body: Term) -> Result<Te
         };
         term = over_hyp(alloc, hyp, term)?;
     }
+    let _depth = term.depth();
     Ok(term)
 }
 

@@ -101,9 +101,8 @@ impl ProofState {
         ensures goal { IfSome result (λ g. IsGoal g.now) }
     {
         match self.table.parts.get(n as usize) {
-            Some(Part::Open(goal)) => Some(goal),
-            Some(Part::GivenUp(goal)) => Some(goal),
-            _ => None,
+            Some(part) => part.goal(),
+            None => None,
         }
     }
 
