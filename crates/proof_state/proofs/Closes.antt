@@ -1,5 +1,5 @@
 -- The whole term of a proof.
-use Rattle.std.proofs.Common.{◌≡◌, ◌≢◌, ℕ, ◌+◌, ◌-◌, ◌<◌, ◌≤◌, zero, suc, List, [], ◌∷◌, length, drop, get_or, slice_get, Option, Some, None, Ok, Err, Bool, true, false, if◌then◌else◌, ◌==◌, ◌&&◌, nat_le, max, map, refl, sym, ◌∙◌, ap, subst, arith, length-drop}
+use Rattle.std.proofs.Common.{◌≡◌, ◌≢◌, ℕ, ◌+◌, ◌-◌, ◌<◌, ◌≤◌, zero, suc, List, [], ◌∷◌, length, drop, get_or, slice_get, Option, Result, Some, None, Ok, Err, Bool, true, false, if◌then◌else◌, ◌==◌, ◌&&◌, nat_le, max, map, refl, sym, ◌∙◌, ap, subst, arith, length-drop}
 use Rattle.std.proofs.lemmas.Bool.Decides.{nat_tests}
 use Rattle.core_term.specs.Tree.{Tree, Lam, LetIn, App, is_small, size_of, depth_of, IsTerm}
 use Rattle.core_term.specs.Answers.{within_limits}
@@ -10,7 +10,11 @@ use Rattle.proof_state.specs.declared.parts.Part.TheVariants.{Open, GivenUp, Fil
 use Rattle.proof_state.specs.declared.state.Table.{Table}
 use Rattle.proof_state.specs.Partial.{Partial, Ready, Hole, Abstracts, Defines, Applies, holes, replaced, plugged, whole}
 use Rattle.proof_state.specs.Proof.{GoalStatus, Unsolved, GivenUp as Abandoned, Solved, Proof}
-use Rattle.proof_state.specs.Steps.{abstracted}
+use Rattle.proof_state.specs.Steps.{abstracted, bounded}
+use Rattle.base_core.specs.Answers.{Gives}
+use Rattle.base_core.specs.declared.refusals.Stop.{Stop}
+use Rattle.base_core.specs.declared.refusals.Stop.TheVariants.{Refused, Out, NoMem}
+use Rattle.base_core.specs.declared.refusals.Limit.TheVariants.{SizeLimit}
 use Rattle.proof_state.specs.Table.{status_of, stands_for, content, AreWithin, IsPart, IsTable, held, IsKept}
 use Rattle.proof_state.specs.Closing.{made, if_small, around, applied, plugged_if_small, term_of, part_term, terms_from, IsSolved, AreSolved}
 use Rattle.proof_state.specs.IsProof.{times, holes_of, IsProof}
@@ -160,3 +164,49 @@ whole_term t found kept none is =
 abstracted_grows : (hs : List Hyp) (t : Tree) → is_small t ≡ false → is_small (abstracted hs t) ≡ false
 abstracted_grows [] t large = large
 abstracted_grows (h ∷ hs) t large = abstracted_grows hs (Lam h.name h.ty t) (lam_grows h.name h.ty t large)
+
+-- no term past the end
+pub term_none : (terms : List (Option Tree)) (n : ℕ) → None ≡ slice_get terms n → None ≡ get_or terms n None
+term_none [] n none = refl
+term_none (t ∷ terms) zero none = cc
+term_none (t ∷ terms) (suc n) none = term_none terms n none
+
+-- the functions over the hypotheses that are left
+pub abstracted_next : (hs : List Hyp) (i : ℕ) (h : Hyp) (t u all : Tree) → slice_get hs i ≡ Some h → u ≡ Lam h.name h.ty t → abstracted (drop i hs) t ≡ all →
+    abstracted (drop (i + 1) hs) u ≡ all
+abstracted_next hs i h t u all there is before =
+    let front : abstracted (drop i hs) t ≡ abstracted (drop (i + 1) hs) (Lam h.name h.ty t) = rw (drop_at hs i h there) refl in
+    rw is (sym front ∙ before)
+
+abbrev bounded_by : Bool → Tree → Result Tree Stop
+bounded_by b t = if b then Ok t else Err (Out SizeLimit)
+
+made_by : (b : Bool) (t u : Tree) → Ok t ≡ bounded_by b u → t ≡ u
+made_by true t u is = cc
+made_by false t u is = cc
+
+pub made_is : (t u : Tree) → Ok t ≡ bounded u → t ≡ u
+made_is t u is = made_by (is_small u) t u is
+
+large_by : (b : Bool) (u : Tree) (stop : Stop) → is_small u ≡ b → Err stop ≡ bounded_by b u → (is_small u ≡ false) × (stop ≡ Out SizeLimit)
+large_by true u stop test is = cc
+large_by false u stop test is = (test, cc)
+
+-- where the term is too large, so is every function over it
+large_over : (hs : List Hyp) (u : Tree) (stop : Stop) → Err stop ≡ bounded u → Err stop ≡ bounded (abstracted hs u)
+large_over hs u stop is =
+    let large = large_by (is_small u) u stop refl is in
+    let more : is_small (abstracted hs u) ≡ false = abstracted_grows hs u large.0 in
+    rw (more, large.1) refl
+
+large_gives : (hs : List Hyp) (u : Tree) (stop : Stop) → Gives (Err stop) (bounded u) → Gives (Err stop) (bounded (abstracted hs u))
+large_gives hs u (Refused r) is = large_over hs u (Refused r) is
+large_gives hs u (Out l) is = large_over hs u (Out l) is
+large_gives hs u NoMem is = tt
+
+-- a function over a hypothesis that is too large, with hypotheses left
+pub abstracted_ends : (hs : List Hyp) (i : ℕ) (h : Hyp) (t all : Tree) (stop : Stop) → slice_get hs i ≡ Some h → Gives (Err stop) (bounded (Lam h.name h.ty t)) →
+    abstracted (drop i hs) t ≡ all → Gives (Err stop) (bounded all)
+abstracted_ends hs i h t all stop there is before =
+    let front : abstracted (drop i hs) t ≡ abstracted (drop (i + 1) hs) (Lam h.name h.ty t) = rw (drop_at hs i h there) refl in
+    subst (λ (x : Tree). Gives (Err stop) (bounded x)) (sym front ∙ before) (large_gives (drop (i + 1) hs) (Lam h.name h.ty t) stop is)

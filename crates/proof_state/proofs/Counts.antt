@@ -1,5 +1,5 @@
 -- How often numbers stand in lists and at holes.
-use Rattle.std.proofs.Common.{◌≡◌, ◌≢◌, ℕ, ◌+◌, ◌*◌, ◌<◌, ◌≤◌, zero, suc, List, [], ◌∷◌, ◌++◌, length, Bool, true, false, if◌then◌else◌, ◌==◌, refl, sym, ◌∙◌, ap, arith, length-append, append_assoc}
+use Rattle.std.proofs.Common.{◌≡◌, ◌≢◌, ℕ, ◌+◌, ◌-◌, ◌*◌, ◌<◌, ◌≤◌, zero, suc, List, [], ◌∷◌, ◌++◌, length, Bool, true, false, if◌then◌else◌, ◌==◌, refl, sym, ◌∙◌, ap, arith, length-append, append_assoc}
 use Rattle.std.specs.List.{range_with_len}
 use Rattle.proof_state.specs.Partial.{Partial, Ready, Hole, Abstracts, Defines, Applies, holes, numbered, filling, fill, replaced}
 use Rattle.proof_state.specs.IsProof.{times}
@@ -78,3 +78,10 @@ within_by n from k (Other o e) later = let none = one_other n from o in omega (a
 pub times_within : (n from k : ℕ) → from ≤ n → n < from + k → times n (range_with_len from k) ≡ 1
 times_within n from zero low high = absurd (omega arith)
 times_within n from (suc k) low high = within_by n from k (compare n from) (λ other. times_within n (from + 1) k (omega arith) (omega arith))
+
+-- one number more
+pub numbers_next : (from n : ℕ) (all : List ℕ) → from ≤ n → all ≡ range_with_len from (n - from) → all ++ n ∷ [] ≡ range_with_len from (n + 1 - from)
+numbers_next from n all low is =
+    let e : n + 1 - from ≡ (n - from) + 1 = omega arith in
+    let f : from + (n - from) ≡ n = omega arith in
+    rw (is, e, range_more from (n - from) 1, f) refl

@@ -1,7 +1,8 @@
 -- States after a step.
-use Rattle.std.proofs.Common.{◌≡◌, ℕ, ◌+◌, ◌-◌, ◌<◌, ◌≤◌, zero, suc, List, [], ◌∷◌, ◌++◌, map, length, slice_get, slice_set, Option, Some, None, Ok, Err, Bool, true, false, if◌then◌else◌, nat_le, refl, sym, ◌∙◌, ap, subst, arith, length-append, length-set}
+use Rattle.std.proofs.Common.{◌≡◌, ℕ, ◌+◌, ◌-◌, ◌<◌, ◌≤◌, zero, suc, List, [], ◌∷◌, ◌++◌, map, length, slice_get, slice_set, Option, Some, None, Ok, Err, IfSome, Bor, Bool, true, false, if◌then◌else◌, nat_le, refl, sym, ◌∙◌, ap, subst, arith, length-append, length-set}
 use Rattle.std.proofs.lemmas.Bool.Decides.{nat_tests}
 use Rattle.std.specs.List.{range_with_len}
+use Rattle.std.specs.Option.{option_copied}
 use Rattle.std.proofs.lemmas.Option.{slice_get_within}
 use Rattle.base_core.specs.declared.refusals.Stop.TheVariants.{Out}
 use Rattle.base_core.specs.declared.refusals.Limit.TheVariants.{SizeLimit}
@@ -173,3 +174,17 @@ is_goal_of Solved g has there = cc
 
 pub goal_in : (t : Table) (n : ℕ) (p : Part) (g : Goal) → IsKept t → slice_get t.parts n ≡ Some p → goal_of (status_of p) ≡ Some g → IsGoal g
 goal_in t n p g kept there is = is_goal_of (status_of p) g (part_goal t.parts n p kept.proof.goals there) is
+
+-- what a look-up tells of the goal that it gives
+pub goal_in_result : (t : Table) (n : ℕ) (p : Part) (found : Option (Bor Goal)) → IsKept t → slice_get t.parts n ≡ Some p → option_copied found ≡ goal_of (status_of p) →
+    IfSome found (λ g. IsGoal g.now)
+goal_in_result t n p None kept there is = tt
+goal_in_result t n p (Some g) kept there is = goal_in t n p g.now kept there (sym is)
+
+pub no_status : (ps : List Part) (n : ℕ) → None ≡ slice_get ps n → None ≡ goal_at (map status_of ps) n
+no_status [] n none = refl
+no_status (p ∷ ps) zero none = cc
+no_status (p ∷ ps) (suc n) none = no_status ps n none
+
+pub no_part : (p : Proof) (t : Table) (n : ℕ) → held t ≡ p → None ≡ slice_get t.parts n → None ≡ goal_at p.goals n
+no_part p t n view none = subst (λ (q : Proof). None ≡ goal_at q.goals n) view (no_status t.parts n none)

@@ -1,5 +1,5 @@
 //! The whole term of a proof is put together.
-ghost use Rattle.std.specs.Prelude.{◌≡◌, ◌+◌, ◌<◌, ◌∷◌, length, drop, slice_get, IfOk};
+ghost use Rattle.std.specs.Prelude.{◌≡◌, ◌+◌, ◌<◌, None, length, drop, get_or, IfOk};
 ghost use Rattle.base_core.specs.Answers.{Gives};
 ghost use Rattle.core_term.specs.Tree.{Lam, LetIn, App};
 ghost use Rattle.proof_state.specs.Steps.{abstracted, bounded};
@@ -92,7 +92,7 @@ fn plugged(
 }
 
 fn term_at(terms: &Terms, at: usize) -> Result<Option<Term>, NoMem>
-    ensures { IfOk result (λ t. t ≡ term_of 0 terms.now at) }
+    ensures { IfOk result (λ t. t ≡ get_or terms.now at None) }
 {
     match terms.get(at) {
         Some(term) => share_term(term),
@@ -179,7 +179,10 @@ pub(crate) fn abstracted(alloc: Global, hyps: &Context, body: Term) -> Result<Te
         let Some(hyp) = hyps.get(i) else {
             unreachable!()
         };
-        term = over_hyp(alloc, hyp, term)?;
+        term = match over_hyp(alloc, hyp, term) {
+            Ok(over) => over,
+            Err(stop) => return Err(stop),
+        };
     }
     let _depth = term.depth();
     Ok(term)

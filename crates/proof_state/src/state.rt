@@ -100,10 +100,7 @@ impl ProofState {
         ensures found { option_copied result ≡ goal_at self.now.goals n }
         ensures goal { IfSome result (λ g. IsGoal g.now) }
     {
-        match self.table.parts.get(n as usize) {
-            Some(part) => part.goal(),
-            None => None,
-        }
+        self.table.goal(n)
     }
 
     /// The statement.
@@ -144,55 +141,78 @@ impl ProofState {
         ensures { Gives result (refined_by self.now n by) }
     {
         match by {
-            Filling::Give(sketch) => self.fill(alloc, n, sketch),
-            Filling::Admit => self.give_up(alloc, n),
+            Filling::Give(sketch) => self.table.fill(alloc, n, sketch),
+            Filling::Admit => self.table.give_up(alloc, n),
         }
     }
 
     /// The whole term, under a function for each hypothesis that the proof began with.
     pub fn close(&self, alloc: Global) -> Result<Term, Stop>
-        requires { holes self.now.term ≡ [] }
+        requires whole { holes self.now.term ≡ [] }
         ensures { Gives result (bounded (closed self.now)) }
     {
-        match whole(alloc, &self.table.parts)? {
-            Some(body) => abstracted(alloc, &self.table.hyps, body),
-            None => Err(Stop::Out(Limit::SizeLimit)),
+        self.table.close(alloc)
+    }
+}
+
+impl Table {
+    fn goal(&self, n: u32) -> Option<&Goal>
+        requires { IsKept self.now }
+        ensures found { option_copied result ≡ goal_at (held self.now).goals n }
+        ensures goal { IfSome result (λ g. IsGoal g.now) }
+    {
+        match self.parts.get(n as usize) {
+            Some(part) => part.goal(),
+            None => None,
         }
     }
 
+    /// An unsolved goal is solved by a sketch.
     fn fill(&self, alloc: Global, n: u32, sketch: Sketch<Goal>) -> Result<Refined, Stop>
-        requires { MayFill (slice_get self.now.goals n) (Give sketch) }
-        ensures { Gives result (refined_by self.now n (Give sketch)) }
+        requires kept { IsKept self.now }
+        requires may { MayFill (slice_get (held self.now).goals n) (Give sketch) }
+        ensures { Gives result (refined_by (held self.now) n (Give sketch)) }
     {
-        let first = self.table.parts.len();
-        let before = self.table.parts.share()?;
+        let first = self.parts.len();
+        let before = self.parts.share()?;
         let Numbered { sketch, parts } = number(alloc, sketch, before)?;
         let goals = numbers(alloc, first, parts.len())?;
         let parts = parts.with_set(alloc, n as usize, Part::Filled(sketch))?;
-        let given_up = self.table.given_up.share()?;
-        let proof = self.table.with(alloc, parts, given_up)?;
+        let given_up = self.given_up.share()?;
+        let proof = self.with(alloc, parts, given_up)?;
         Ok(Refined { proof, goals })
     }
 
+    /// An unsolved goal is given up.
     fn give_up(&self, alloc: Global, n: u32) -> Result<Refined, Stop>
-        requires { MayFill (slice_get self.now.goals n) Admit }
-        ensures { Gives result (refined_by self.now n Admit) }
+        requires kept { IsKept self.now }
+        requires may { MayFill (slice_get (held self.now).goals n) Admit }
+        ensures { Gives result (refined_by (held self.now) n Admit) }
     {
-        let Some(Part::Open(goal)) = self.table.parts.get(n as usize) else {
+        let Some(Part::Open(goal)) = self.parts.get(n as usize) else {
             unreachable!()
         };
         let goal = goal.share()?;
-        let parts = self.table.parts.with_set(alloc, n as usize, Part::GivenUp(goal))?;
-        let given_up = self.table.given_up.with_last(alloc, n)?;
-        let proof = self.table.with(alloc, parts, given_up)?;
+        let parts = self.parts.with_set(alloc, n as usize, Part::GivenUp(goal))?;
+        let given_up = self.given_up.with_last(alloc, n)?;
+        let proof = self.with(alloc, parts, given_up)?;
         Ok(Refined {
             proof,
             goals: NumberList::new(alloc),
         })
     }
-}
 
-impl Table {
+    fn close(&self, alloc: Global) -> Result<Term, Stop>
+        requires kept { IsKept self.now }
+        requires whole { holes (held self.now).term ≡ [] }
+        ensures { Gives result (bounded (closed (held self.now))) }
+    {
+        match whole(alloc, &self.parts)? {
+            Some(body) => abstracted(alloc, &self.hyps, body),
+            None => Err(Stop::Out(Limit::SizeLimit)),
+        }
+    }
+
     /// The state over the same hypotheses with other parts.
     fn with(
         &self,
