@@ -102,10 +102,10 @@ drop_at (y ∷ ys) zero x there = cc
 drop_at (y ∷ ys) (suc i) x there = let e : suc i + 1 ≡ suc (i + 1) = omega arith in rw e (drop_at ys i x there)
 
 -- the next sketch in front of the terms of those behind it
-pub next_term : (ps : List Part) (n : ℕ) (s : Partial ℕ) (terms : List (Option Tree)) (t : Option Tree) → slice_get ps n ≡ Some (Filled s) →
+pub next_term : (ps : List Part) (n : ℕ) (p : Part) (s : Partial ℕ) (terms : List (Option Tree)) (t : Option Tree) → slice_get ps n ≡ Some p → p ≡ Filled s →
     terms ≡ terms_from (n + 1) (drop (n + 1) ps) → t ≡ plugged_if_small (term_of (n + 1) terms) s → t ∷ terms ≡ terms_from n (drop n ps)
-next_term ps n s terms t there before is =
-    let front = drop_at ps n (Filled s) there in
+next_term ps n p s terms t there same before is =
+    let front = drop_at ps n (Filled s) (there ∙ ap (λ (x : Part). Some x) same) in
     let e : n + 1 ≡ suc n = omega arith in
     rw (front, ← e) (rw (is, before) refl)
 
@@ -122,24 +122,19 @@ part_kept (p ∷ ps) first zero to s table there =
     rw e mine
 part_kept (p ∷ ps) first (suc k) to s table there = let e : first + suc k ≡ suc first + k = omega arith in rw e (part_kept ps (suc first) k to s table.1 there)
 
-pub next_within : (ps : List Part) (n : ℕ) (s : Partial ℕ) (terms : List (Option Tree)) → IsTable 0 (length ps) ps → slice_get ps n ≡ Some (Filled s) →
+pub next_within : (ps : List Part) (n : ℕ) (p : Part) (s : Partial ℕ) (terms : List (Option Tree)) → IsTable 0 (length ps) ps → slice_get ps n ≡ Some p → p ≡ Filled s →
     n < length ps → terms ≡ terms_from (n + 1) (drop (n + 1) ps) → AreWithin (n + 1) (n + 1 + length terms) s
-next_within ps n s terms table there before is =
+next_within ps n p s terms table there same before is =
     let count : length terms ≡ length ps - (n + 1) = ap length is ∙ terms_length (drop (n + 1) ps) (n + 1) ∙ length-drop (n + 1) ps in
-    let kept = part_kept ps 0 n (length ps) s table there in
+    let kept = part_kept ps 0 n (length ps) s table (there ∙ ap (λ (x : Part). Some x) same) in
     let e : suc (0 + n) ≡ n + 1 = omega arith in
     let f : n + 1 + length terms ≡ length ps = omega arith in
     rw f (rw e at kept)
 
-pub solved_open : (ps : List Part) (n : ℕ) (g : Goal) → AreSolved ps → slice_get ps n ≡ Some (Open g) → ⊥
-solved_open [] n g solved there = cc
-solved_open (p ∷ ps) zero g solved there = let same : p ≡ Open g = cc in subst IsSolved same solved.0
-solved_open (p ∷ ps) (suc n) g solved there = solved_open ps n g solved.1 there
-
-pub solved_given_up : (ps : List Part) (n : ℕ) (g : Goal) → AreSolved ps → slice_get ps n ≡ Some (GivenUp g) → ⊥
-solved_given_up [] n g solved there = cc
-solved_given_up (p ∷ ps) zero g solved there = let same : p ≡ GivenUp g = cc in subst IsSolved same solved.0
-solved_given_up (p ∷ ps) (suc n) g solved there = solved_given_up ps n g solved.1 there
+pub part_solved : (ps : List Part) (n : ℕ) (p : Part) → AreSolved ps → slice_get ps n ≡ Some p → IsSolved p
+part_solved [] n p solved there = cc
+part_solved (q ∷ ps) zero p solved there = let same : q ≡ p = cc in subst IsSolved same solved.0
+part_solved (q ∷ ps) (suc n) p solved there = part_solved ps n p solved.1 there
 
 -- where no hole is left, all is solved
 parts_solved : (ps : List Part) → ((n : ℕ) → 0 ≡ holes_of (slice_get (map status_of ps) n)) → AreSolved ps

@@ -93,10 +93,8 @@ open_by t n s (Some (Abandoned g)) there may = absurd may
 open_by t n s (Some Solved) there may = absurd may
 open_by t n s None there may = absurd may
 
-pub is_open : (p : Proof) (t : Table) (n : ℕ) (s : Partial Goal) → held t ≡ p → MayFill (slice_get p.goals n) (Give s) → IsOpen t n s
-is_open p t n s view may =
-    let mine : MayFill (slice_get (map status_of t.parts) n) (Give s) = subst (λ (q : Proof). MayFill (slice_get q.goals n) (Give s)) (sym view) may in
-    open_by t n s (slice_get (map status_of t.parts) n) refl mine
+is_open : (t : Table) (n : ℕ) (s : Partial Goal) → MayFill (slice_get (held t).goals n) (Give s) → IsOpen t n s
+is_open t n s may = open_by t n s (slice_get (map status_of t.parts) n) refl may
 
 -- there was room
 pub data HasRoom (s : Partial Goal) (ps : List Part) (done : Numbered) : Type 0 where
@@ -116,10 +114,10 @@ fill_kept_by t n s done kept (OpenAt g there fits) (Room room is) =
     subst (λ (d : Numbered). IsKept (with_parts t (slice_set d.parts n (Filled d.sketch)) t.given_up)) is (filled_is_kept t n s g kept there fits room)
 
 -- a goal that was solved: the table is one, and shows the step
-pub fill_kept : (p : Proof) (t : Table) (n : ℕ) (s : Partial Goal) (done : Numbered) (ps : List Part) (given_up : List ℕ) → held t ≡ p → IsKept t →
-    MayFill (slice_get p.goals n) (Give s) → Ok done ≡ numbering s t.parts → ps ≡ slice_set done.parts n (Filled done.sketch) → given_up ≡ t.given_up →
+pub fill_kept : (t : Table) (n : ℕ) (s : Partial Goal) (done : Numbered) (ps : List Part) (given_up : List ℕ) → IsKept t →
+    MayFill (slice_get (held t).goals n) (Give s) → Ok done ≡ numbering s t.parts → ps ≡ slice_set done.parts n (Filled done.sketch) → given_up ≡ t.given_up →
     IsKept (with_parts t ps given_up)
-fill_kept p t n s done ps given_up view kept may is set same = rw (set, same) (fill_kept_by t n s done kept (is_open p t n s view may) (has_room s t.parts done is))
+fill_kept t n s done ps given_up kept may is set same = rw (set, same) (fill_kept_by t n s done kept (is_open t n s may) (has_room s t.parts done is))
 
 fill_gives_by : (t : Table) (n : ℕ) (s : Partial Goal) (done : Numbered) → IsKept t → IsOpen t n s → HasRoom s t.parts done →
     Ok (record { proof = held (with_parts t (slice_set done.parts n (Filled done.sketch)) t.given_up); goals = range_with_len (length t.parts) (length done.parts - length t.parts) }) ≡ refined_by (held t) n (Give s)
@@ -131,13 +129,12 @@ fill_gives_by t n s done kept (OpenAt g there fits) (Room room is) =
     subst (λ (d : Numbered). Ok (record { proof = held (with_parts t (slice_set d.parts n (Filled d.sketch)) t.given_up); goals = range_with_len (length t.parts) (length d.parts - length t.parts) }) ≡ refined_by (held t) n (Give s)) is
     (rw (test, shown, long, count) refl)
 
-pub fill_gives : (p : Proof) (t : Table) (n : ℕ) (s : Partial Goal) (done : Numbered) (ps : List Part) (given_up goals : List ℕ) (after : Proof) → held t ≡ p → IsKept t →
-    MayFill (slice_get p.goals n) (Give s) → Ok done ≡ numbering s t.parts → ps ≡ slice_set done.parts n (Filled done.sketch) → given_up ≡ t.given_up →
-    goals ≡ range_with_len (length t.parts) (length done.parts - length t.parts) → after ≡ held (with_parts t ps given_up) →
-    Ok (record { proof = after; goals = goals }) ≡ refined_by p n (Give s)
-fill_gives p t n s done ps given_up goals after view kept may is set same numbers shown =
-    subst (λ (q : Proof). Ok (record { proof = after; goals = goals }) ≡ refined_by q n (Give s)) view
-    (rw (shown, numbers, set, same) (fill_gives_by t n s done kept (is_open p t n s view may) (has_room s t.parts done is)))
+pub fill_gives : (t : Table) (n : ℕ) (s : Partial Goal) (done : Numbered) (ps : List Part) (given_up goals : List ℕ) (after : Proof) (first last : ℕ) → IsKept t →
+    MayFill (slice_get (held t).goals n) (Give s) → Ok done ≡ numbering s t.parts → ps ≡ slice_set done.parts n (Filled done.sketch) → given_up ≡ t.given_up →
+    first ≡ length t.parts → last ≡ length done.parts → goals ≡ range_with_len first (last - first) → after ≡ held (with_parts t ps given_up) →
+    Ok (record { proof = after; goals = goals }) ≡ refined_by (held t) n (Give s)
+fill_gives t n s done ps given_up goals after first last kept may is set same low high numbers shown =
+    rw (shown, numbers, low, high, set, same) (fill_gives_by t n s done kept (is_open t n s may) (has_room s t.parts done is))
 
 -- the parts after a goal was given up
 held_given_up : (t : Table) (n : ℕ) (g : Goal) → slice_get t.parts n ≡ Some (Open g) →
@@ -147,19 +144,19 @@ held_given_up t n g there =
     changed_same p _ _ _ _ (given_up_stands t.parts 0 n 0 g there) (statuses_given_up t.parts n g there)
 
 -- a goal that was given up: the table is one, and shows the step
-pub give_up_kept : (p : Proof) (t : Table) (n : ℕ) (g : Goal) (ps : List Part) (given_up : List ℕ) → IsKept t → slice_get t.parts n ≡ Some (Open g) →
-    ps ≡ slice_set t.parts n (GivenUp g) → given_up ≡ t.given_up ++ n ∷ [] → IsKept (with_parts t ps given_up)
-give_up_kept p t n g ps given_up kept there set more =
+pub give_up_kept : (t : Table) (n : ℕ) (g h : Goal) (ps : List Part) (given_up : List ℕ) → IsKept t → slice_get t.parts n ≡ Some (Open g) → h ≡ g →
+    ps ≡ slice_set t.parts n (GivenUp h) → given_up ≡ t.given_up ++ n ∷ [] → IsKept (with_parts t ps given_up)
+give_up_kept t n g h ps given_up kept there same set more =
     let shown = held_given_up t n g there in
-    rw (set, more) (record {
+    rw (set, more, same) (record {
       table = rw (length-set t.parts n (GivenUp g)) (table_set t.parts 0 n (length t.parts) (GivenUp g) kept.table tt);
       proof = subst IsProof (sym shown) (abandoned_kept (held t) n g kept.proof (status_there t.parts n g there));
     })
 
-pub give_up_gives : (p : Proof) (t : Table) (n : ℕ) (g : Goal) (ps : List Part) (given_up : List ℕ) (after : Proof) → held t ≡ p → slice_get t.parts n ≡ Some (Open g) →
-    ps ≡ slice_set t.parts n (GivenUp g) → given_up ≡ t.given_up ++ n ∷ [] → after ≡ held (with_parts t ps given_up) → after ≡ abandoned n p
-give_up_gives p t n g ps given_up after view there set more shown =
-    subst (λ (q : Proof). after ≡ abandoned n q) view (rw (shown, set, more) (held_given_up t n g there))
+pub give_up_gives : (t : Table) (n : ℕ) (g h : Goal) (ps : List Part) (given_up : List ℕ) (after : Proof) (none : List ℕ) → slice_get t.parts n ≡ Some (Open g) → h ≡ g →
+    ps ≡ slice_set t.parts n (GivenUp h) → given_up ≡ t.given_up ++ n ∷ [] → after ≡ held (with_parts t ps given_up) → none ≡ [] →
+    Ok (record { proof = after; goals = none }) ≡ refined_by (held t) n Admit
+give_up_gives t n g h ps given_up after none there same set more shown empty = rw (shown, set, more, same, empty, held_given_up t n g there) refl
 
 -- a goal's type is in its context
 part_goal : (ps : List Part) (n : ℕ) (p : Part) → HaveGoals (map status_of ps) → slice_get ps n ≡ Some p → HasGoal (status_of p)
@@ -185,6 +182,3 @@ pub no_status : (ps : List Part) (n : ℕ) → None ≡ slice_get ps n → None 
 no_status [] n none = refl
 no_status (p ∷ ps) zero none = cc
 no_status (p ∷ ps) (suc n) none = no_status ps n none
-
-pub no_part : (p : Proof) (t : Table) (n : ℕ) → held t ≡ p → None ≡ slice_get t.parts n → None ≡ goal_at p.goals n
-no_part p t n view none = subst (λ (q : Proof). None ≡ goal_at q.goals n) view (no_status t.parts n none)

@@ -46,10 +46,11 @@ fn with_part(
     requires terms { terms.now ≡ terms_from (number + 1) (drop (number + 1) parts.now) }
     ensures { IfOk result (λ ts. ts ≡ terms_from number (drop number parts.now)) }
 {
-    let Some(Part::Filled(sketch)) = parts.get(number) else {
+    let _len = parts.len();
+    let Some(part) = parts.get(number) else {
         unreachable!()
     };
-    let term = plugged(alloc, sketch, number + 1, terms)?;
+    let term = plugged(alloc, part.sketch(), number + 1, terms)?;
     terms.with_first(alloc, term)
 }
 

@@ -3,6 +3,8 @@ ghost use Rattle.std.specs.Prelude.{◌≡◌};
 ghost use Rattle.std.specs.Option.{option_copied};
 ghost use Rattle.proof_state.specs.Steps.{goal_of};
 ghost use Rattle.proof_state.specs.Table.{status_of};
+ghost use Rattle.proof_state.specs.Closing.{IsSolved};
+ghost use Rattle.proof_state.specs.declared.parts.Part.TheVariants.{Filled};
 
 use crate::{Goal, Sketch};
 
@@ -23,6 +25,18 @@ impl Part {
             Part::Open(goal) => Some(goal),
             Part::GivenUp(goal) => Some(goal),
             Part::Filled(_) => None,
+        }
+    }
+
+    /// The sketch, where it is solved.
+    pub(crate) fn sketch(&self) -> &Sketch<u32>
+        requires { IsSolved self.now }
+        ensures { self.now ≡ Filled result.now }
+    {
+        match self {
+            Part::Filled(sketch) => sketch,
+            Part::Open(_) => unreachable!(),
+            Part::GivenUp(_) => unreachable!(),
         }
     }
 }

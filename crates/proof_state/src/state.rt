@@ -12,7 +12,7 @@ ghost use Rattle.proof_state.specs.Table.{held, IsKept};
 ghost use Rattle.proof_state.specs.declared.state.Filling.TheVariants.{Give, Admit};
 
 use crate::closing::{abstracted, whole};
-use crate::numbering::{Numbered, number};
+use crate::numbering::number;
 use crate::parts::Part;
 use crate::{Goal, Sketch};
 use base_core::{Limit, NoMem, NumberList, Stop};
@@ -175,9 +175,10 @@ impl Table {
     {
         let first = self.parts.len();
         let before = self.parts.share()?;
-        let Numbered { sketch, parts } = number(alloc, sketch, before)?;
-        let goals = numbers(alloc, first, parts.len())?;
-        let parts = parts.with_set(alloc, n as usize, Part::Filled(sketch))?;
+        let numbered = number(alloc, sketch, before)?;
+        let goals = numbers(alloc, first, numbered.parts.len())?;
+        let filled = Part::Filled(numbered.sketch);
+        let parts = numbered.parts.with_set(alloc, n as usize, filled)?;
         let given_up = self.given_up.share()?;
         let proof = self.with(alloc, parts, given_up)?;
         Ok(Refined { proof, goals })
