@@ -1,24 +1,21 @@
 -- The whole term of a proof.
-use Rattle.std.proofs.Common.{◌≡◌, ◌≢◌, ℕ, ◌+◌, ◌-◌, ◌<◌, ◌≤◌, zero, suc, List, [], ◌∷◌, length, drop, get_or, slice_get, Option, Result, Some, None, Ok, Err, Bool, true, false, if◌then◌else◌, ◌==◌, ◌&&◌, nat_le, max, map, refl, sym, ◌∙◌, ap, subst, arith, length-drop}
+use Rattle.std.proofs.Common.{◌≡◌, ◌≢◌, ℕ, ◌+◌, ◌-◌, ◌<◌, ◌≤◌, zero, suc, List, [], ◌∷◌, length, drop, get_or, slice_get, Option, Result, Some, None, Ok, Err, Bool, true, false, if◌then◌else◌, map, refl, sym, ◌∙◌, ap, subst, arith, length-drop}
 use Rattle.std.proofs.lemmas.Bool.Decides.{nat_tests}
 use Rattle.core_term.specs.Tree.{Tree, Lam, LetIn, App, is_small, size_of, depth_of, IsTerm}
-use Rattle.core_term.specs.Answers.{within_limits}
 use Rattle.cic_rules.specs.declared.context.Hyp.{Hyp}
-use Rattle.proof_state.specs.declared.goals.Goal.{Goal}
 use Rattle.proof_state.specs.declared.parts.Part.{Part}
 use Rattle.proof_state.specs.declared.parts.Part.TheVariants.{Open, GivenUp, Filled}
 use Rattle.proof_state.specs.declared.state.Table.{Table}
-use Rattle.proof_state.specs.Partial.{Partial, Ready, Hole, Abstracts, Defines, Applies, holes, replaced, plugged, whole}
-use Rattle.proof_state.specs.Proof.{GoalStatus, Unsolved, GivenUp as Abandoned, Solved, Proof}
-use Rattle.proof_state.specs.Steps.{abstracted, bounded}
+use Rattle.proof_state.specs.Partial.{Partial, Ready, Hole, Abstracts, Defines, Applies, holes, plugged, whole}
+use Rattle.proof_state.specs.Steps.{abstracted, bounded, closed}
 use Rattle.base_core.specs.Answers.{Gives}
 use Rattle.base_core.specs.declared.refusals.Stop.{Stop}
 use Rattle.base_core.specs.declared.refusals.Stop.TheVariants.{Refused, Out, NoMem}
 use Rattle.base_core.specs.declared.refusals.Limit.TheVariants.{SizeLimit}
-use Rattle.proof_state.specs.Table.{status_of, stands_for, content, AreWithin, IsPart, IsTable, held, IsKept}
-use Rattle.proof_state.specs.Closing.{made, if_small, around, applied, plugged_if_small, term_of, part_term, terms_from, IsSolved, AreSolved}
-use Rattle.proof_state.specs.IsProof.{times, holes_of, IsProof}
-use Rattle.proof_state.proofs.Numbers.{Compared, Same, Other, compare, not_same, same_itself}
+use Rattle.proof_state.specs.Table.{status_of, stands_for, AreWithin, IsPart, IsTable, held, IsKept}
+use Rattle.proof_state.specs.Closing.{if_small, around, applied, plugged_if_small, term_of, terms_from, IsSolved, AreSolved}
+use Rattle.proof_state.specs.IsProof.{times, holes_of}
+use Rattle.proof_state.proofs.Numbers.{Compared, Same, Other, compare}
 use Rattle.proof_state.proofs.HoleLaws.{plugged_replaced}
 
 -- a term that another one is in is too large only where that is
@@ -80,7 +77,7 @@ terms_by : (s : Partial ℕ) (ps : List Part) (first m to : ℕ) → Compared m 
     term_of first (terms_from first (Filled s ∷ ps)) m ≡ if_small (whole (stands_for first (Filled s ∷ ps) m))
 terms_by s ps first m to (Same e is) from before within later =
     rw is (term_first first m _ _ e ∙ plugged_small s (suc first) to _ (λ k. whole (stands_for (suc first) ps k)) within later
-      ∙ ap if_small (sym (plugged_replaced s (stands_for (suc first) ps) _)))
+    ∙ ap if_small (sym (plugged_replaced s (stands_for (suc first) ps) _)))
 terms_by s ps first m to (Other o is) from before within later =
     rw is (term_later first m _ _ from o ∙ later m (omega arith) before)
 
@@ -92,7 +89,7 @@ terms_stand (Open g ∷ ps) first m to from before ends table solved = absurd so
 terms_stand (GivenUp g ∷ ps) first m to from before ends table solved = absurd solved.0
 terms_stand (Filled s ∷ ps) first m to from before ends table solved =
     let later : (k : ℕ) → suc first ≤ k → k < to → term_of (suc first) (terms_from (suc first) ps) k ≡ if_small (whole (stands_for (suc first) ps k)) =
-        λ k low high. terms_stand ps (suc first) k to low high (omega arith) table.1 solved.1 in
+    λ k low high. terms_stand ps (suc first) k to low high (omega arith) table.1 solved.1 in
     terms_by s ps first m to (compare m first) from before table.0 later
 
 -- from the place of an item on, the list is that item and what is behind it
@@ -205,3 +202,26 @@ pub abstracted_ends : (hs : List Hyp) (i : ℕ) (h : Hyp) (t all : Tree) (stop :
 abstracted_ends hs i h t all stop there is before =
     let front : abstracted (drop i hs) t ≡ abstracted (drop (i + 1) hs) (Lam h.name h.ty t) = rw (drop_at hs i h there) refl in
     subst (λ (x : Tree). Gives (Err stop) (bounded x)) (sym front ∙ before) (large_gives (drop (i + 1) hs) (Lam h.name h.ty t) stop is)
+
+small_by : (b : Bool) (t w : Tree) → is_small w ≡ b → Some t ≡ if_small w → t ≡ w
+small_by true t w small is = let itself = if_small_is w small in cc
+small_by false t w large is = let none = if_large_is w large in cc
+
+none_by : (b : Bool) (w : Tree) → is_small w ≡ b → None ≡ if_small w → is_small w ≡ false
+none_by true w small is = let itself = if_small_is w small in cc
+none_by false w large is = large
+
+-- the functions over the hypotheses around the whole term
+pub close_some : (t : Table) (body : Tree) (result : Result Tree Stop) → IsKept t → holes (held t).term ≡ [] →
+    Some body ≡ term_of 0 (terms_from 0 t.parts) 0 → Gives result (bounded (abstracted t.hyps body)) → Gives result (bounded (closed (held t)))
+close_some t body result kept none is gives =
+    let same = small_by (is_small (whole (held t).term)) body (whole (held t).term) refl (whole_term t (Some body) kept none is) in
+    subst (λ (x : Tree). Gives result (bounded (abstracted t.hyps x))) same gives
+
+-- or nothing, where that is too large
+pub close_none : (t : Table) → IsKept t → holes (held t).term ≡ [] → None ≡ term_of 0 (terms_from 0 t.parts) 0 →
+    Err (Out SizeLimit) ≡ bounded (closed (held t))
+close_none t kept none is =
+    let large = none_by (is_small (whole (held t).term)) (whole (held t).term) refl (whole_term t None kept none is) in
+    let more : is_small (closed (held t)) ≡ false = abstracted_grows t.hyps (whole (held t).term) large in
+    rw more refl

@@ -1,7 +1,7 @@
 -- How often numbers stand in lists and at holes.
-use Rattle.std.proofs.Common.{◌≡◌, ◌≢◌, ℕ, ◌+◌, ◌-◌, ◌*◌, ◌<◌, ◌≤◌, zero, suc, List, [], ◌∷◌, ◌++◌, length, Bool, true, false, if◌then◌else◌, ◌==◌, refl, sym, ◌∙◌, ap, arith, length-append, append_assoc}
+use Rattle.std.proofs.Common.{◌≡◌, ◌≢◌, ℕ, ◌+◌, ◌-◌, ◌*◌, ◌<◌, ◌≤◌, zero, suc, List, [], ◌∷◌, ◌++◌, length, if◌then◌else◌, ◌==◌, refl, sym, ap, arith, length-append}
 use Rattle.std.specs.List.{range_with_len}
-use Rattle.proof_state.specs.Partial.{Partial, Ready, Hole, Abstracts, Defines, Applies, holes, numbered, filling, fill, replaced}
+use Rattle.proof_state.specs.Partial.{Partial, Ready, Hole, Abstracts, Defines, Applies, holes, numbered, filling, fill}
 use Rattle.proof_state.specs.IsProof.{times}
 use Rattle.proof_state.proofs.Numbers.{Compared, Same, Other, compare, same_itself, not_same}
 use Rattle.proof_state.proofs.HoleLaws.{filling_here, filling_other}

@@ -1,7 +1,6 @@
 -- Terms with holes in place of holes.
-use Rattle.std.proofs.Common.{◌≡◌, ◌≢◌, ℕ, ◌+◌, ◌<◌, ◌≤◌, suc, List, [], ◌∷◌, ◌++◌, length, refl, sym, ◌∙◌, ap, arith, length-append}
-use Rattle.core_term.specs.Tree.{Tree}
-use Rattle.proof_state.specs.Partial.{Partial, Ready, Hole, Abstracts, Defines, Applies, holes, numbered, replaced, filling, fill, AtHoles, plugged}
+use Rattle.std.proofs.Common.{◌≡◌, ◌≢◌, ℕ, ◌+◌, ◌<◌, ◌≤◌, length, refl, ap, arith, length-append}
+use Rattle.proof_state.specs.Partial.{Partial, Ready, Hole, Abstracts, Defines, Applies, holes, numbered, replaced, filling, AtHoles, plugged}
 use Rattle.proof_state.specs.Table.{AreWithin}
 use Rattle.proof_state.proofs.Numbers.{same_itself, not_same}
 

@@ -1,5 +1,5 @@
 -- Steps keep what is true of a proof.
-use Rattle.std.proofs.Common.{◌≡◌, ◌≢◌, ℕ, ◌+◌, ◌-◌, ◌*◌, ◌<◌, ◌≤◌, ◌⊎◌, inl, inr, zero, suc, List, [], ◌∷◌, ◌++◌, map, length, slice_get, slice_set, Option, Some, None, Ok, Err, Bool, true, false, if◌then◌else◌, ◌==◌, nat_le, nat_lt, refl, sym, ◌∙◌, ap, subst, arith, length-append, length-set}
+use Rattle.std.proofs.Common.{◌≡◌, ◌≢◌, ℕ, ◌+◌, ◌-◌, ◌*◌, ◌<◌, ◌≤◌, zero, suc, List, [], ◌∷◌, ◌++◌, map, length, slice_get, slice_set, Option, Some, None, Ok, Err, Bool, true, false, if◌then◌else◌, nat_le, nat_lt, refl, sym, ◌∙◌, ap, subst, arith, length-append, length-set}
 use Rattle.std.proofs.lemmas.Bool.Decides.{nat_tests}
 use Rattle.std.specs.List.{range_with_len}
 use Rattle.std.proofs.lemmas.Option.{slice_get_past, slice_get_within}
@@ -13,10 +13,10 @@ use Rattle.proof_state.specs.declared.goals.TheConstants.{GOAL_LIMIT}
 use Rattle.proof_state.specs.declared.state.Filling.{Filling}
 use Rattle.proof_state.specs.declared.state.Filling.TheVariants.{Give, Admit}
 use Rattle.proof_state.specs.declared.state.Refined.{Refined}
-use Rattle.proof_state.specs.Partial.{Partial, Ready, Hole, Abstracts, Defines, Applies, holes, numbered, filling, fill, replaced}
+use Rattle.proof_state.specs.Partial.{Partial, Ready, Hole, Abstracts, Defines, Applies, holes, numbered, filling, fill}
 use Rattle.proof_state.specs.Proof.{GoalStatus, Unsolved, GivenUp, Solved, Proof}
-use Rattle.proof_state.specs.Steps.{started, goal_of, goal_if_any, goal_at, unnamed, unnamed_hyp, StandsIn, Fits, MayFill, give_up, abandoned_at, abandoned, filled, refined, refined_by}
-use Rattle.proof_state.specs.IsProof.{times, open_holes, holes_of, given_up_count, told_of, IsThere, Stand, IsGoal, HasGoal, HaveGoals, IsProof}
+use Rattle.proof_state.specs.Steps.{started, goal_if_any, goal_at, unnamed, unnamed_hyp, StandsIn, Fits, MayFill, abandoned_at, abandoned, filled, refined, refined_by}
+use Rattle.proof_state.specs.IsProof.{times, holes_of, told_of, IsThere, Stand, HaveGoals, IsProof}
 use Rattle.proof_state.specs.Laws.{StepsKeepProofs, StepsKeepGoals, WholeWhereSolved}
 use Rattle.proof_state.proofs.Numbers.{Compared, Same, Other, compare}
 use Rattle.proof_state.proofs.HoleLaws.{filling_here, filling_other}
@@ -156,7 +156,7 @@ holes_kept p n m s g is there =
     let one : times n (holes p.term) ≡ 1 = is.holes n ∙ ap holes_of there in
     let filling = times_filled p.term n m (numbered (length p.goals) s) in
     let numbers : times m (holes (numbered (length p.goals) s)) ≡ times m (range_with_len (length p.goals) (length (holes s))) =
-        ap (λ (l : List ℕ). times m l) (holes_numbered s (length p.goals)) in
+    ap (λ (l : List ℕ). times m l) (holes_numbered s (length p.goals)) in
     let counted = holes_by p.goals (holes s) n m g (times m (holes p.term)) (where_is p.goals (holes s) n m) there (is.holes m) in
     balance _ _ _ _ _ _ _ one filling numbers counted
 
@@ -227,11 +227,11 @@ stand_numbered goals (Abstracts n a p) ctx other next same fits there =
     stand_numbered goals p (plain_hyp n a ∷ ctx) (plain_hyp n a ∷ other) next (ap (λ (l : List Hyp). unnamed_hyp (plain_hyp n a) ∷ l) same) fits there
 stand_numbered goals (Defines n a t p) ctx other next same fits there =
     stand_numbered goals p (defined_hyp n a t ∷ ctx) (defined_hyp n a t ∷ other) next (ap (λ (l : List Hyp). unnamed_hyp (defined_hyp n a t) ∷ l) same) fits there
-stand_numbered goals (Applies f a) ctx other next same fits there =
-    (
-    stand_numbered goals f ctx other next same fits.0 (λ k g found. there k g (get_front (holes f) (holes a) k (slice_get_within (holes f) k g found) ∙ found)),
-    stand_numbered goals a ctx other (next + length (holes f)) same fits.1
-    (λ k g found. let e : next + length (holes f) + k ≡ next + (length (holes f) + k) = omega arith in rw e (there (length (holes f) + k) g (get_back (holes f) (holes a) k ∙ found))))
+stand_numbered goals (Applies f a) ctx other next same fits there = (
+  stand_numbered goals f ctx other next same fits.0 (λ k g found. there k g (get_front (holes f) (holes a) k (slice_get_within (holes f) k g found) ∙ found)),
+  stand_numbered goals a ctx other (next + length (holes f)) same fits.1
+      (λ k g found. let e : next + length (holes f) + k ≡ next + (length (holes f) + k) = omega arith in rw e (there (length (holes f) + k) g (get_back (holes f) (holes a) k ∙ found))),
+)
 
 -- the hole of a goal that is there
 goal_there : (goals : List GoalStatus) (ctx : List Hyp) (m : ℕ) (found : Option GoalStatus) → slice_get goals m ≡ found → IsThere ctx (goal_if_any found) → m < length goals
@@ -290,7 +290,7 @@ filled_kept p n s g is there fits room = record {
   stand = stand_filled p.goals (filled n s p).goals p.term p.hyps n g (numbered (length p.goals) s) there
       (λ k before other. get_other p.goals (map Unsolved (holes s)) n k Solved before other)
       (λ inner same. stand_numbered (filled n s p).goals s inner g.ctx (length p.goals) same fits
-        (λ k h found. get_new p.goals (map Unsolved (holes s)) n k Solved ∙ get_unsolved (holes s) k h found))
+      (λ k h found. get_new p.goals (map Unsolved (holes s)) n k Solved ∙ get_unsolved (holes s) k h found))
       is.stand;
   few = rw (filled_length p.goals n (holes s)) room;
 }

@@ -1,9 +1,9 @@
 -- What stands for the numbers of a table, before and after a step.
-use Rattle.std.proofs.Common.{◌≡◌, ◌≢◌, ℕ, ◌+◌, ◌<◌, ◌≤◌, zero, suc, List, [], ◌∷◌, ◌++◌, map, length, slice_get, slice_set, Bool, true, false, Some, None, if◌then◌else◌, ◌==◌, refl, sym, ◌∙◌, ap, subst, arith}
+use Rattle.std.proofs.Common.{◌≡◌, ◌≢◌, ℕ, ◌+◌, ◌<◌, ◌≤◌, zero, suc, List, [], ◌∷◌, ◌++◌, map, length, slice_get, slice_set, Bool, true, false, Some, if◌then◌else◌, ◌==◌, refl, sym, ◌∙◌, ap, arith}
 use Rattle.proof_state.specs.declared.goals.Goal.{Goal}
 use Rattle.proof_state.specs.declared.parts.Part.{Part}
 use Rattle.proof_state.specs.declared.parts.Part.TheVariants.{Open, GivenUp, Filled}
-use Rattle.proof_state.specs.Partial.{Partial, Ready, Hole, Abstracts, Defines, Applies, replaced, filling, fill}
+use Rattle.proof_state.specs.Partial.{Partial, Hole, replaced, filling, fill}
 use Rattle.proof_state.specs.Table.{content, stands_for, AreWithin, IsPart, IsTable}
 use Rattle.proof_state.proofs.Numbers.{Compared, Same, Other, compare, not_same, if_same}
 use Rattle.proof_state.proofs.HoleLaws.{filling_here, filling_other, replaced_same, replaced_within, replaced_none, replaced_twice}
@@ -52,10 +52,10 @@ pub fill_absent : (ps : List Part) (n first m to : ℕ) (by : Partial ℕ) → n
 fill_absent [] n first m to by before other table = filling_other n m by other
 fill_absent (p ∷ ps) n first m to by before other table =
     let later : (k : ℕ) → suc first ≤ k → fill n by (stands_for (suc first) ps k) ≡ stands_for (suc first) ps k =
-        λ k from. fill_absent ps n (suc first) k to by (omega arith) (λ s. omega arith) table.1 in
+    λ k from. fill_absent ps n (suc first) k to by (omega arith) (λ s. omega arith) table.1 in
     let rest : fill n by (stands_for (suc first) ps m) ≡ stands_for (suc first) ps m = fill_absent ps n (suc first) m to by (omega arith) other table.1 in
     let here : fill n by (content first p (stands_for (suc first) ps)) ≡ content first p (stands_for (suc first) ps) =
-        absent_content p n first to by (stands_for (suc first) ps) (λ s. omega arith) table.0 later in
+    absent_content p n first to by (stands_for (suc first) ps) (λ s. omega arith) table.0 later in
     fill_if n by (content first p (stands_for (suc first) ps)) (stands_for (suc first) ps m) (m == first) ∙ if_same (m == first) _ _ _ _ here rest
 
 filled_content : (p : Part) (n first : ℕ) (by : Partial ℕ) (at after : ℕ → Partial ℕ) → first ≢ n → ((m : ℕ) → after m ≡ fill n by (at m)) →
@@ -69,11 +69,11 @@ filled_content (Filled s) n first by at after other same =
 filled_here : (ps : List Part) (gs : List Goal) (first m from to high : ℕ) (by : Partial ℕ) → Compared m first → from ≡ suc first + length ps →
     IsTable (suc first) to ps → AreWithin from high by →
     (if m == first then replaced (stands_for (suc first) (ps ++ map Open gs)) by else stands_for (suc first) (ps ++ map Open gs) m)
-      ≡ fill first by (if m == first then Hole first else stands_for (suc first) ps m)
+    ≡ fill first by (if m == first then Hole first else stands_for (suc first) ps m)
 filled_here ps gs first m from to high by (Same s e) ends table within =
     let none : replaced (stands_for (suc first) (ps ++ map Open gs)) by ≡ by =
-        replaced_none by from high (stands_for (suc first) (ps ++ map Open gs)) within
-        (λ k past. stands_more ps gs (suc first) k ∙ stands_past ps (suc first) k (omega arith)) in
+    replaced_none by from high (stands_for (suc first) (ps ++ map Open gs)) within
+    (λ k past. stands_more ps gs (suc first) k ∙ stands_past ps (suc first) k (omega arith)) in
     rw e (none ∙ sym (filling_here first first by refl))
 filled_here ps gs first m from to high by (Other o e) ends table within =
     rw e (stands_more ps gs (suc first) m ∙ sym (fill_absent ps first (suc first) m to by (omega arith) o table))
@@ -89,7 +89,7 @@ filled_stands (p ∷ ps) gs first zero n m from to high by g place there ends ta
     rw (is_open, same) (filled_here ps gs first m from to high by (compare m first) (omega arith) table.1 within)
 filled_stands (p ∷ ps) gs first (suc k) n m from to high by g place there ends table within =
     let rest : (i : ℕ) → stands_for (suc first) (slice_set (ps ++ map Open gs) k (Filled by)) i ≡ fill n by (stands_for (suc first) ps i) =
-        λ i. filled_stands ps gs (suc first) k n i from to high by g (omega arith) there (omega arith) table.1 within in
+    λ i. filled_stands ps gs (suc first) k n i from to high by g (omega arith) there (omega arith) table.1 within in
     if_same (m == first) _ _ _ _ (filled_content p n first by (stands_for (suc first) ps) _ (λ s. omega arith) rest) (rest m)
     ∙ sym (fill_if n by (content first p (stands_for (suc first) ps)) (stands_for (suc first) ps m) (m == first))
 

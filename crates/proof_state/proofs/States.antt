@@ -1,5 +1,5 @@
 -- States after a step.
-use Rattle.std.proofs.Common.{◌≡◌, ℕ, ◌+◌, ◌-◌, ◌<◌, ◌≤◌, zero, suc, List, [], ◌∷◌, ◌++◌, map, length, slice_get, slice_set, Option, Some, None, Ok, Err, IfSome, Bor, Bool, true, false, if◌then◌else◌, nat_le, refl, sym, ◌∙◌, ap, subst, arith, length-append, length-set}
+use Rattle.std.proofs.Common.{◌≡◌, ℕ, ◌+◌, ◌-◌, ◌≤◌, zero, suc, List, [], ◌∷◌, ◌++◌, map, length, slice_get, slice_set, Option, Some, None, Ok, Err, IfSome, Bor, Bool, true, false, if◌then◌else◌, nat_le, refl, sym, ◌∙◌, ap, subst, arith, length-append, length-set}
 use Rattle.std.proofs.lemmas.Bool.Decides.{nat_tests}
 use Rattle.std.specs.List.{range_with_len}
 use Rattle.std.specs.Option.{option_copied}
@@ -12,12 +12,11 @@ use Rattle.proof_state.specs.declared.numbering.Numbered.{Numbered}
 use Rattle.proof_state.specs.declared.parts.Part.{Part}
 use Rattle.proof_state.specs.declared.parts.Part.TheVariants.{Open, GivenUp, Filled}
 use Rattle.proof_state.specs.declared.state.Filling.TheVariants.{Give, Admit}
-use Rattle.proof_state.specs.declared.state.Refined.{Refined}
 use Rattle.proof_state.specs.declared.state.Table.{Table}
-use Rattle.proof_state.specs.Partial.{Partial, holes, numbered, fill}
+use Rattle.proof_state.specs.Partial.{Partial, holes, numbered}
 use Rattle.proof_state.specs.Proof.{GoalStatus, Unsolved, GivenUp as Abandoned, Solved, Proof}
-use Rattle.proof_state.specs.Steps.{goal_of, goal_at, Fits, MayFill, abandoned_at, abandoned, filled, refined, refined_by}
-use Rattle.proof_state.specs.Table.{status_of, stands_for, IsPart, IsTable, held, IsKept}
+use Rattle.proof_state.specs.Steps.{goal_of, goal_at, Fits, MayFill, abandoned, filled, refined_by}
+use Rattle.proof_state.specs.Table.{status_of, stands_for, IsTable, held, IsKept}
 use Rattle.proof_state.specs.Numbering.{all_numbered, numbering}
 use Rattle.proof_state.specs.IsProof.{IsGoal, HasGoal, HaveGoals, IsProof}
 use Rattle.proof_state.proofs.HoleLaws.{numbered_within, within_more}

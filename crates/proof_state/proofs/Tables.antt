@@ -1,12 +1,12 @@
 -- Tables after a step.
-use Rattle.std.proofs.Common.{◌≡◌, ℕ, ◌+◌, ◌<◌, ◌≤◌, zero, suc, List, [], ◌∷◌, ◌++◌, map, length, slice_get, slice_set, Some, refl, ap, arith}
+use Rattle.std.proofs.Common.{◌≡◌, ℕ, ◌+◌, ◌≤◌, zero, suc, List, [], ◌∷◌, ◌++◌, map, slice_get, slice_set, Some, refl, ap, arith}
 use Rattle.proof_state.specs.declared.goals.Goal.{Goal}
 use Rattle.proof_state.specs.declared.parts.Part.{Part}
 use Rattle.proof_state.specs.declared.parts.Part.TheVariants.{Open, GivenUp, Filled}
 use Rattle.proof_state.specs.Partial.{Partial}
 use Rattle.proof_state.specs.Proof.{GoalStatus, Unsolved, Solved}
 use Rattle.proof_state.specs.Steps.{abandoned_at}
-use Rattle.proof_state.specs.Table.{status_of, AreWithin, IsPart, IsTable}
+use Rattle.proof_state.specs.Table.{status_of, IsPart, IsTable}
 use Rattle.proof_state.proofs.HoleLaws.{within_more}
 
 part_more : (p : Part) (first to high : ℕ) → IsPart first to p → to ≤ high → IsPart first high p

@@ -1,5 +1,5 @@
 -- Laws of the steps.
-use Rattle.std.specs.Prelude.{◌≡◌, ◌≢◌, ℕ, ◌+◌, ◌<◌, List, [], length, Some, Result, Ok, Err, slice_get}
+use Rattle.std.specs.Prelude.{◌≡◌, ◌≢◌, ℕ, ◌+◌, ◌<◌, List, [], length, Some, Ok, slice_get}
 use Rattle.core_term.specs.Tree.{Tree}
 use Rattle.cic_rules.specs.declared.context.Hyp.{Hyp}
 use Rattle.cic_rules.specs.Contexts.{IsIn, AreParams}
@@ -7,7 +7,7 @@ use Rattle.proof_state.specs.declared.goals.Goal.{Goal}
 use Rattle.proof_state.specs.declared.state.Filling.{Filling}
 use Rattle.proof_state.specs.declared.state.Refined.{Refined}
 use Rattle.proof_state.specs.Partial.{Partial, holes}
-use Rattle.proof_state.specs.Proof.{GoalStatus, Unsolved, Proof}
+use Rattle.proof_state.specs.Proof.{Unsolved, Proof}
 use Rattle.proof_state.specs.Steps.{started, MayFill, refined, refined_by}
 use Rattle.proof_state.specs.IsProof.{IsProof}
 

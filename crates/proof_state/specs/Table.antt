@@ -1,7 +1,5 @@
 -- A proof under way as it is kept: for each number, the goal or the sketch that solves it.
 use Rattle.std.specs.Prelude.{ℕ, ◌==◌, ◌<◌, ◌≤◌, suc, List, [], ◌∷◌, map, length, if◌then◌else◌}
-use Rattle.core_term.specs.Tree.{Tree}
-use Rattle.cic_rules.specs.declared.context.Hyp.{Hyp}
 use Rattle.proof_state.specs.declared.parts.Part.{Part}
 use Rattle.proof_state.specs.declared.parts.Part.TheVariants as part
 use Rattle.proof_state.specs.declared.state.Table.{Table}

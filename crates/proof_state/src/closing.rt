@@ -113,12 +113,7 @@ fn share_term(term: &Option<Term>) -> Result<Option<Term>, NoMem>
     }
 }
 
-fn lam(
-    alloc: Global,
-    name: &Text,
-    domain: &Term,
-    body: Option<Term>,
-) -> Result<Option<Term>, NoMem>
+fn lam(alloc: Global, name: &Text, domain: &Term, body: Option<Term>) -> Result<Option<Term>, NoMem>
     ensures { IfOk result (λ t. t ≡ around (Lam name.now domain.now) body) }
 {
     let Some(body) = body else { return Ok(None) };
@@ -151,11 +146,7 @@ fn let_in(
     }
 }
 
-fn app(
-    alloc: Global,
-    function: Option<Term>,
-    argument: Option<Term>,
-) -> Result<Option<Term>, NoMem>
+fn app(alloc: Global, function: Option<Term>, argument: Option<Term>) -> Result<Option<Term>, NoMem>
     ensures { IfOk result (λ t. t ≡ applied function argument) }
 {
     let Some(function) = function else {

@@ -76,12 +76,7 @@ impl<H: Drop> Sketch<H> {
     }
 
     /// The function over `domain`, whose body has one more variable.
-    pub fn lam(
-        alloc: Global,
-        name: Text,
-        domain: Term,
-        body: Sketch<H>,
-    ) -> Result<Sketch<H>, NoMem>
+    pub fn lam(alloc: Global, name: Text, domain: Term, body: Sketch<H>) -> Result<Sketch<H>, NoMem>
         ensures { IfOk result (λ s. s ≡ Abstracts name domain body) }
     {
         let body = Box::new(alloc, body)?;
@@ -112,11 +107,7 @@ impl<H: Drop> Sketch<H> {
     }
 
     /// The function applied to the argument.
-    pub fn app(
-        alloc: Global,
-        function: Sketch<H>,
-        argument: Sketch<H>,
-    ) -> Result<Sketch<H>, NoMem>
+    pub fn app(alloc: Global, function: Sketch<H>, argument: Sketch<H>) -> Result<Sketch<H>, NoMem>
         ensures { IfOk result (λ s. s ≡ Applies function argument) }
     {
         let function = Box::new(alloc, function)?;

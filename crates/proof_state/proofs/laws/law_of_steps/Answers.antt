@@ -1,5 +1,4 @@
 use Rattle.proof_state.proofs.Keeps.{steps_keep, steps_keep_goals, whole_where_solved}
-use Rattle.proof_state.proofs.Stands.{filled_stands}
 use Rattle.proof_state.proofs.Closes.{terms_stand}
 use Rattle.proof_state.proofs.States.{goal_in}
 use Rattle.proof_state.proofs.laws.law_of_steps.Goals as goal
