@@ -1,5 +1,5 @@
 -- The whole term of a proof.
-use Rattle.std.proofs.Common.{◌≡◌, ◌≢◌, ℕ, ◌+◌, ◌-◌, ◌<◌, ◌≤◌, zero, suc, List, [], ◌∷◌, length, drop, get_or, slice_get, Option, Result, Some, None, Ok, Err, Bool, true, false, if◌then◌else◌, map, refl, sym, ◌∙◌, ap, subst, arith, length-drop}
+use Rattle.std.proofs.Common.{◌≡◌, ◌≢◌, ℕ, ◌+◌, ◌-◌, ◌<◌, ◌≤◌, zero, suc, List, [], ◌∷◌, length, take, drop, get_or, slice_get, Option, Result, Some, None, Ok, Err, Bool, true, false, if◌then◌else◌, map, refl, sym, ◌∙◌, ap, subst, arith, length-drop}
 use Rattle.std.proofs.lemmas.Bool.Decides.{nat_tests}
 use Rattle.core_term.specs.Tree.{Tree, Lam, LetIn, App, is_small, size_of, depth_of, IsTerm}
 use Rattle.cic_rules.specs.declared.context.Hyp.{Hyp}
@@ -17,6 +17,7 @@ use Rattle.proof_state.specs.Closing.{if_small, around, applied, plugged_if_smal
 use Rattle.proof_state.specs.IsProof.{times, holes_of}
 use Rattle.proof_state.proofs.Numbers.{Compared, Same, Other, compare}
 use Rattle.proof_state.proofs.HoleLaws.{plugged_replaced}
+use Rattle.proof_state.proofs.Keeps.{empty_by}
 
 -- a term that another one is in is too large only where that is
 small_inside : (t u : Tree) → size_of t ≤ size_of u → depth_of t ≤ depth_of u → is_small t ≡ false → is_small u ≡ false
@@ -225,3 +226,24 @@ close_none t kept none is =
     let large = none_by (is_small (whole (held t).term)) (whole (held t).term) refl (whole_term t None kept none is) in
     let more : is_small (closed (held t)) ≡ false = abstracted_grows t.hyps (whole (held t).term) large in
     rw more refl
+
+-- one solved part more
+pub solved_next : (ps : List Part) (n : ℕ) (p : Part) → slice_get ps n ≡ Some p → IsSolved p → AreSolved (take n ps) → AreSolved (take (n + 1) ps)
+solved_next [] n p there here before = cc
+solved_next (q ∷ ps) zero p there here before =
+    let same : q ≡ p = cc in
+    rw same (here, tt)
+solved_next (q ∷ ps) (suc n) p there here before =
+    let e : suc n + 1 ≡ suc (n + 1) = omega arith in
+    rw e (before.0, solved_next ps n p there here before.1)
+
+solved_holes : (ps : List Part) (n : ℕ) → AreSolved ps → holes_of (slice_get (map status_of ps) n) ≡ 0
+solved_holes [] n solved = refl
+solved_holes (Open g ∷ ps) n solved = absurd solved.0
+solved_holes (GivenUp g ∷ ps) n solved = absurd solved.0
+solved_holes (Filled s ∷ ps) zero solved = refl
+solved_holes (Filled s ∷ ps) (suc n) solved = solved_holes ps n solved.1
+
+-- where all is solved, no hole is left
+pub solved_whole : (t : Table) → IsKept t → AreSolved t.parts → holes (held t).term ≡ []
+solved_whole t kept solved = empty_by (holes (held t).term) (λ n. kept.proof.holes n ∙ solved_holes t.parts n solved)

@@ -394,7 +394,7 @@ none_left (Some (Unsolved g)) unsolved told = absurd (unsolved g refl)
 none_left (Some (GivenUp g)) unsolved told = absurd (omega arith)
 none_left (Some Solved) unsolved told = refl
 
-empty_by : (all : List ℕ) → ((n : ℕ) → times n all ≡ 0) → all ≡ []
+pub empty_by : (all : List ℕ) → ((n : ℕ) → times n all ≡ 0) → all ≡ []
 empty_by [] none = refl
 empty_by (n ∷ all) none = let one = one_same n n refl in let zero_of = none n in absurd (omega (arith, one, zero_of))
 

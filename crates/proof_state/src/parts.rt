@@ -1,12 +1,13 @@
 //! What is kept of each number of a proof.
-ghost use Rattle.std.specs.Prelude.{◌≡◌};
+ghost use Rattle.std.specs.Prelude.{◌≡◌, ◌↔◌, IsTrue};
 ghost use Rattle.std.specs.Option.{option_copied};
 ghost use Rattle.proof_state.specs.Steps.{goal_of};
 ghost use Rattle.proof_state.specs.Table.{status_of};
-ghost use Rattle.proof_state.specs.Closing.{IsSolved};
+ghost use Rattle.proof_state.specs.Closing.{IsSolved, AreSolved};
 ghost use Rattle.proof_state.specs.declared.parts.Part.TheVariants.{Filled};
 
 use crate::{Goal, Sketch};
+use shared_map::SharedList;
 
 /// A goal, or the sketch that solves it, with the numbers of its goals at the holes.
 #[derive(Drop)]
@@ -28,6 +29,16 @@ impl Part {
         }
     }
 
+    fn is_solved(&self) -> bool
+        ensures { IsTrue result ↔ IsSolved self.now }
+    {
+        match self {
+            Part::Filled(_) => true,
+            Part::Open(_) => false,
+            Part::GivenUp(_) => false,
+        }
+    }
+
     /// The sketch, where it is solved.
     pub(crate) fn sketch(&self) -> &Sketch<u32>
         requires { IsSolved self.now }
@@ -39,4 +50,19 @@ impl Part {
             Part::GivenUp(_) => unreachable!(),
         }
     }
+}
+
+/// Whether each is solved.
+pub(crate) fn are_solved(parts: &SharedList<Part>) -> bool
+    ensures { IsTrue result ↔ AreSolved parts.now }
+{
+    for n in 0..parts.len() {
+        let Some(part) = parts.get(n) else {
+            unreachable!()
+        };
+        if !part.is_solved() {
+            return false;
+        }
+    }
+    true
 }

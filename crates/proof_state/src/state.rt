@@ -1,5 +1,5 @@
 //! The states of a proof, and the steps between them.
-ghost use Rattle.std.specs.Prelude.{◌≡◌, ◌-◌, ◌≤◌, [], length, slice_get, IfOk, IfSome};
+ghost use Rattle.std.specs.Prelude.{◌≡◌, ◌↔◌, ◌-◌, ◌≤◌, [], IsTrue, length, slice_get, IfOk, IfSome};
 ghost use Rattle.std.specs.Option.{option_copied};
 ghost use Rattle.std.specs.List.{range_with_len};
 ghost use Rattle.base_core.specs.Answers.{Gives};
@@ -13,7 +13,7 @@ ghost use Rattle.proof_state.specs.declared.state.Filling.TheVariants.{Give, Adm
 
 use crate::closing::{abstracted, whole};
 use crate::numbering::number;
-use crate::parts::Part;
+use crate::parts::{Part, are_solved};
 use crate::{Goal, Sketch};
 use base_core::{Limit, NoMem, NumberList, Stop};
 use cic_rules::Context;
@@ -126,6 +126,13 @@ impl ProofState {
         &self.table.given_up
     }
 
+    /// Whether every goal is solved, so that the proof may be closed. It looks at every goal.
+    pub fn is_whole(&self) -> bool
+        ensures { IsTrue result ↔ holes self.now.term ≡ [] }
+    {
+        self.table.is_solved()
+    }
+
     /// The same state once more, by one more count.
     pub fn share(&self) -> Result<ProofState, NoMem>
         ensures { IfOk result (λ p. p ≡ self.now) }
@@ -201,6 +208,13 @@ impl Table {
             proof,
             goals: NumberList::new(alloc),
         })
+    }
+
+    fn is_solved(&self) -> bool
+        requires { IsKept self.now }
+        ensures { IsTrue result ↔ holes (held self.now).term ≡ [] }
+    {
+        are_solved(&self.parts)
     }
 
     fn close(&self, alloc: Global) -> Result<Term, Stop>
