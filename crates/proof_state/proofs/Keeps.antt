@@ -15,9 +15,9 @@ use Rattle.proof_state.specs.declared.state.Filling.TheVariants.{Give, Admit}
 use Rattle.proof_state.specs.declared.state.Refined.{Refined}
 use Rattle.proof_state.specs.Partial.{Partial, Ready, Hole, Abstracts, Defines, Applies, holes, numbered, filling, fill}
 use Rattle.proof_state.specs.Proof.{GoalStatus, Unsolved, GivenUp, Solved, Proof}
-use Rattle.proof_state.specs.Steps.{started, goal_if_any, goal_at, unnamed, unnamed_hyp, StandsIn, Fits, MayFill, abandoned_at, abandoned, filled, refined, refined_by}
+use Rattle.proof_state.specs.Steps.{started, only_unsolved, unsolved_at, goal_if_any, goal_at, unnamed, unnamed_hyp, StandsIn, Fits, MayFill, abandoned_at, abandoned, filled, refined, refined_by}
 use Rattle.proof_state.specs.IsProof.{times, holes_of, told_of, IsThere, Stand, HaveGoals, IsProof}
-use Rattle.proof_state.specs.Laws.{StepsKeepProofs, StepsKeepGoals, WholeWhereSolved}
+use Rattle.proof_state.specs.Laws.{StepsKeepProofs, StepsKeepGoals, WholeWhereSolved, UnsolvedMayBeFilled}
 use Rattle.proof_state.proofs.Numbers.{Compared, Same, Other, compare}
 use Rattle.proof_state.proofs.HoleLaws.{filling_here, filling_other}
 use Rattle.proof_state.proofs.Counts.{one_if, one_same, one_other, times_append, times_filled, holes_numbered, times_before, times_past, times_within}
@@ -402,3 +402,26 @@ pub whole_where_solved : WholeWhereSolved
 whole_where_solved = record {
   whole = λ p is unsolved given. empty_by (holes p.term) (λ n. is.holes n ∙ none_left (slice_get p.goals n) (unsolved n) (sym (is.given_up n) ∙ ap (λ (l : List ℕ). times n l) given));
 }
+
+-- an unsolved goal may be solved, or given up
+
+give_by : (status : Option GoalStatus) (g : Goal) (s : Partial Goal) → Some g ≡ only_unsolved status → Fits g.ctx s → MayFill status (Give s)
+give_by (Some (Unsolved h)) g s is fits = let same : g ≡ h = cc in subst (λ (x : Goal). Fits x.ctx s) same fits
+give_by (Some (GivenUp h)) g s is fits = cc
+give_by (Some Solved) g s is fits = cc
+give_by None g s is fits = cc
+
+admit_by : (status : Option GoalStatus) (g : Goal) → Some g ≡ only_unsolved status → MayFill status Admit
+admit_by (Some (Unsolved h)) g is = tt
+admit_by (Some (GivenUp h)) g is = cc
+admit_by (Some Solved) g is = cc
+admit_by None g is = cc
+
+pub may_give : (goals : List GoalStatus) (n : ℕ) (g : Goal) (s : Partial Goal) → Some g ≡ unsolved_at goals n → Fits g.ctx s → MayFill (slice_get goals n) (Give s)
+may_give goals n g s is fits = give_by (slice_get goals n) g s is fits
+
+pub may_admit : (goals : List GoalStatus) (n : ℕ) (g : Goal) → Some g ≡ unsolved_at goals n → MayFill (slice_get goals n) Admit
+may_admit goals n g is = admit_by (slice_get goals n) g is
+
+pub may_be_filled : UnsolvedMayBeFilled
+may_be_filled = record { give = may_give; admit = may_admit }

@@ -15,7 +15,7 @@ use Rattle.proof_state.specs.declared.state.Filling.TheVariants.{Give, Admit}
 use Rattle.proof_state.specs.declared.state.Table.{Table}
 use Rattle.proof_state.specs.Partial.{Partial, holes, numbered}
 use Rattle.proof_state.specs.Proof.{GoalStatus, Unsolved, GivenUp as Abandoned, Solved, Proof}
-use Rattle.proof_state.specs.Steps.{goal_of, goal_at, Fits, MayFill, abandoned, filled, refined_by}
+use Rattle.proof_state.specs.Steps.{goal_of, unsolved_of, unsolved_at, goal_at, Fits, MayFill, abandoned, filled, refined_by}
 use Rattle.proof_state.specs.Table.{status_of, stands_for, IsTable, held, IsKept}
 use Rattle.proof_state.specs.Numbering.{all_numbered, numbering}
 use Rattle.proof_state.specs.IsProof.{IsGoal, HasGoal, HaveGoals, IsProof}
@@ -181,3 +181,18 @@ pub no_status : (ps : List Part) (n : ℕ) → None ≡ slice_get ps n → None 
 no_status [] n none = refl
 no_status (p ∷ ps) zero none = cc
 no_status (p ∷ ps) (suc n) none = no_status ps n none
+
+unsolved_is_goal : (status : GoalStatus) (g : Goal) → HasGoal status → unsolved_of status ≡ Some g → IsGoal g
+unsolved_is_goal (Unsolved h) g has there = let same : h ≡ g = cc in subst IsGoal same has
+unsolved_is_goal (Abandoned h) g has there = cc
+unsolved_is_goal Solved g has there = cc
+
+pub unsolved_in_result : (t : Table) (n : ℕ) (p : Part) (found : Option (Bor Goal)) → IsKept t → slice_get t.parts n ≡ Some p → option_copied found ≡ unsolved_of (status_of p) →
+    IfSome found (λ g. IsGoal g.now)
+unsolved_in_result t n p None kept there is = tt
+unsolved_in_result t n p (Some g) kept there is = unsolved_is_goal (status_of p) g.now (part_goal t.parts n p kept.proof.goals there) (sym is)
+
+pub none_unsolved : (ps : List Part) (n : ℕ) → None ≡ slice_get ps n → None ≡ unsolved_at (map status_of ps) n
+none_unsolved [] n none = refl
+none_unsolved (p ∷ ps) zero none = cc
+none_unsolved (p ∷ ps) (suc n) none = none_unsolved ps n none

@@ -33,6 +33,19 @@ goal_if_any (Some status) = goal_of status
 abbrev pub goal_at : List GoalStatus → ℕ → Option Goal
 goal_at goals n = goal_if_any (slice_get goals n)
 
+abbrev pub unsolved_of : GoalStatus → Option Goal
+unsolved_of (Unsolved g) = Some g
+unsolved_of (GivenUp g) = None
+unsolved_of Solved = None
+
+abbrev pub only_unsolved : Option GoalStatus → Option Goal
+only_unsolved None = None
+only_unsolved (Some status) = unsolved_of status
+
+-- the goal of this number, if it is unsolved
+abbrev pub unsolved_at : List GoalStatus → ℕ → Option Goal
+unsolved_at goals n = only_unsolved (slice_get goals n)
+
 -- what is kept of a hypothesis without its name
 abbrev pub unnamed_value : Option Tree → Option Tree
 unnamed_value None = None

@@ -1,7 +1,7 @@
 //! What is kept of each number of a proof.
 ghost use Rattle.std.specs.Prelude.{◌≡◌, ◌↔◌, IsTrue};
 ghost use Rattle.std.specs.Option.{option_copied};
-ghost use Rattle.proof_state.specs.Steps.{goal_of};
+ghost use Rattle.proof_state.specs.Steps.{goal_of, unsolved_of};
 ghost use Rattle.proof_state.specs.Table.{status_of};
 ghost use Rattle.proof_state.specs.Closing.{IsSolved, AreSolved};
 ghost use Rattle.proof_state.specs.declared.parts.Part.TheVariants.{Filled};
@@ -25,6 +25,17 @@ impl Part {
         match self {
             Part::Open(goal) => Some(goal),
             Part::GivenUp(goal) => Some(goal),
+            Part::Filled(_) => None,
+        }
+    }
+
+    /// The goal, where it is neither solved nor given up.
+    pub(crate) fn unsolved(&self) -> Option<&Goal>
+        ensures { option_copied result ≡ unsolved_of (status_of self.now) }
+    {
+        match self {
+            Part::Open(goal) => Some(goal),
+            Part::GivenUp(_) => None,
             Part::Filled(_) => None,
         }
     }

@@ -6,7 +6,7 @@ ghost use Rattle.base_core.specs.Answers.{Gives};
 ghost use Rattle.cic_rules.specs.Contexts.{IsIn, AreParams};
 ghost use Rattle.proof_state.specs.declared.goals.TheConstants.{GOAL_LIMIT};
 ghost use Rattle.proof_state.specs.Partial.{holes};
-ghost use Rattle.proof_state.specs.Steps.{started, goal_at, MayFill, refined_by, closed, bounded};
+ghost use Rattle.proof_state.specs.Steps.{started, goal_at, unsolved_at, MayFill, refined_by, closed, bounded};
 ghost use Rattle.proof_state.specs.IsProof.{IsProof, IsGoal};
 ghost use Rattle.proof_state.specs.Table.{held, IsKept};
 ghost use Rattle.proof_state.specs.declared.state.Filling.TheVariants.{Give, Admit};
@@ -103,6 +103,14 @@ impl ProofState {
         self.table.goal(n)
     }
 
+    /// The goal of a number, if it is unsolved: a step may be taken at it.
+    pub fn unsolved(&self, n: u32) -> Option<&Goal>
+        ensures found { option_copied result ≡ unsolved_at self.now.goals n }
+        ensures goal { IfSome result (λ g. IsGoal g.now) }
+    {
+        self.table.unsolved(n)
+    }
+
     /// The statement.
     pub fn statement(&self) -> &Term
         ensures { result.now ≡ self.now.statement }
@@ -170,6 +178,17 @@ impl Table {
     {
         match self.parts.get(n as usize) {
             Some(part) => part.goal(),
+            None => None,
+        }
+    }
+
+    fn unsolved(&self, n: u32) -> Option<&Goal>
+        requires { IsKept self.now }
+        ensures found { option_copied result ≡ unsolved_at (held self.now).goals n }
+        ensures goal { IfSome result (λ g. IsGoal g.now) }
+    {
+        match self.parts.get(n as usize) {
+            Some(part) => part.unsolved(),
             None => None,
         }
     }
