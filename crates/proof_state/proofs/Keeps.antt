@@ -403,25 +403,13 @@ whole_where_solved = record {
   whole = λ p is unsolved given. empty_by (holes p.term) (λ n. is.holes n ∙ none_left (slice_get p.goals n) (unsolved n) (sym (is.given_up n) ∙ ap (λ (l : List ℕ). times n l) given));
 }
 
--- an unsolved goal may be solved, or given up
+-- an unsolved goal that was found may be filled
 
-give_by : (status : Option GoalStatus) (g : Goal) (s : Partial Goal) → Some g ≡ only_unsolved status → Fits g.ctx s → MayFill status (Give s)
-give_by (Some (Unsolved h)) g s is fits = let same : g ≡ h = cc in subst (λ (x : Goal). Fits x.ctx s) same fits
-give_by (Some (GivenUp h)) g s is fits = cc
-give_by (Some Solved) g s is fits = cc
-give_by None g s is fits = cc
-
-admit_by : (status : Option GoalStatus) (g : Goal) → Some g ≡ only_unsolved status → MayFill status Admit
-admit_by (Some (Unsolved h)) g is = tt
-admit_by (Some (GivenUp h)) g is = cc
-admit_by (Some Solved) g is = cc
-admit_by None g is = cc
-
-pub may_give : (goals : List GoalStatus) (n : ℕ) (g : Goal) (s : Partial Goal) → Some g ≡ unsolved_at goals n → Fits g.ctx s → MayFill (slice_get goals n) (Give s)
-may_give goals n g s is fits = give_by (slice_get goals n) g s is fits
-
-pub may_admit : (goals : List GoalStatus) (n : ℕ) (g : Goal) → Some g ≡ unsolved_at goals n → MayFill (slice_get goals n) Admit
-may_admit goals n g is = admit_by (slice_get goals n) g is
+found_by : (status : Option GoalStatus) (g : Goal) (by : Filling) → Some g ≡ only_unsolved status → MayFill (Some (Unsolved g)) by → MayFill status by
+found_by (Some (Unsolved h)) g by is may = let same : g ≡ h = cc in subst (λ (x : Goal). MayFill (Some (Unsolved x)) by) same may
+found_by (Some (GivenUp h)) g by is may = cc
+found_by (Some Solved) g by is may = cc
+found_by None g by is may = cc
 
 pub may_be_filled : UnsolvedMayBeFilled
-may_be_filled = record { give = may_give; admit = may_admit }
+may_be_filled goals n g by is may = found_by (slice_get goals n) g by is may

@@ -5,11 +5,10 @@ use Rattle.cic_rules.specs.declared.context.Hyp.{Hyp}
 use Rattle.cic_rules.specs.Contexts.{IsIn, AreParams}
 use Rattle.proof_state.specs.declared.goals.Goal.{Goal}
 use Rattle.proof_state.specs.declared.state.Filling.{Filling}
-use Rattle.proof_state.specs.declared.state.Filling.TheVariants.{Give, Admit}
 use Rattle.proof_state.specs.declared.state.Refined.{Refined}
 use Rattle.proof_state.specs.Partial.{Partial, holes}
 use Rattle.proof_state.specs.Proof.{GoalStatus, Unsolved, Proof}
-use Rattle.proof_state.specs.Steps.{started, unsolved_at, Fits, MayFill, refined, refined_by}
+use Rattle.proof_state.specs.Steps.{started, unsolved_at, MayFill, refined, refined_by}
 use Rattle.proof_state.specs.IsProof.{IsProof}
 
 -- each state that is reached is a proof under way
@@ -29,7 +28,7 @@ pub record StepsKeepGoals : Type 0 where
 pub record WholeWhereSolved : Type 0 where
   pub whole : (p : Proof) → IsProof p → ((n : ℕ) (g : Goal) → slice_get p.goals n ≢ Some (Unsolved g)) → p.given_up ≡ [] → holes p.term ≡ []
 
--- what may be done with an unsolved goal
-pub record UnsolvedMayBeFilled : Type 0 where
-  pub give : (goals : List GoalStatus) (n : ℕ) (g : Goal) (s : Partial Goal) → Some g ≡ unsolved_at goals n → Fits g.ctx s → MayFill (slice_get goals n) (Give s)
-  pub admit : (goals : List GoalStatus) (n : ℕ) (g : Goal) → Some g ≡ unsolved_at goals n → MayFill (slice_get goals n) Admit
+-- what may be done with an unsolved goal that was found
+abbrev pub UnsolvedMayBeFilled : Type 0
+UnsolvedMayBeFilled = (goals : List GoalStatus) (n : ℕ) (g : Goal) (by : Filling) → Some g ≡ unsolved_at goals n → MayFill (Some (Unsolved g)) by →
+    MayFill (slice_get goals n) by
