@@ -15,7 +15,7 @@ use Rattle.proof_state.specs.declared.state.Filling.TheVariants.{Give, Admit}
 use Rattle.proof_state.specs.declared.state.Refined.{Refined}
 use Rattle.proof_state.specs.Partial.{Partial, Ready, Hole, Abstracts, Defines, Applies, holes, numbered, filling, fill}
 use Rattle.proof_state.specs.Proof.{GoalStatus, Unsolved, GivenUp, Solved, Proof}
-use Rattle.proof_state.specs.Steps.{started, only_unsolved, unsolved_at, goal_if_any, goal_at, unnamed, unnamed_hyp, StandsIn, Fits, MayFill, abandoned_at, abandoned, filled, refined, refined_by}
+use Rattle.proof_state.specs.Steps.{started, only_unsolved, goal_if_any, goal_at, unnamed, unnamed_hyp, StandsIn, Fits, MayFill, abandoned_at, abandoned, filled, refined, refined_by}
 use Rattle.proof_state.specs.IsProof.{times, holes_of, told_of, IsThere, Stand, HaveGoals, IsProof}
 use Rattle.proof_state.specs.Laws.{StepsKeepProofs, StepsKeepGoals, WholeWhereSolved, UnsolvedMayBeFilled}
 use Rattle.proof_state.proofs.Numbers.{Compared, Same, Other, compare}
