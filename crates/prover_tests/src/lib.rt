@@ -3,3 +3,5 @@
 
 #[cfg(test)]
 mod focus;
+#[cfg(test)]
+mod proofs;
