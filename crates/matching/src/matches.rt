@@ -38,7 +38,8 @@ pub fn matches<J: Judge>(
     requires judged { MayJudge env.now ctx.now }
     requires pattern { IsPatternIn env.now ctx.now binders values pattern.now }
     requires term { IsTermIn env.now ctx.now term.now }
-    ensures answer { Meets result (left fuel.new) (match_with env.now ctx.now binders pattern.now term.now values fuel.old) }
+    ensures answer { let run = match_with env.now ctx.now binders pattern.now term.now values in
+        Meets result (left fuel.new) (run fuel.old) }
     ensures found { IfOk result (Finds env.now ctx.now binders values) }
     ensures kept { IsSpentOf fuel.old fuel.new }
 {
@@ -66,7 +67,8 @@ fn match_begun<J: Judge>(
     requires judged { MayJudge env.now ctx.now }
     requires pattern { IsPatternIn env.now ctx.now binders values pattern.now }
     requires term { IsTermIn env.now ctx.now term.now }
-    ensures answer { Meets result (left fuel.new) (begun_with env.now ctx.now binders pattern.now term.now values fuel.old) }
+    ensures answer { let run = begun_with env.now ctx.now binders pattern.now term.now values in
+        Meets result (left fuel.new) (run fuel.old) }
     ensures found { IfOk result (Finds env.now ctx.now binders values) }
     ensures kept { IsSpentOf fuel.old fuel.new }
 {
@@ -91,7 +93,8 @@ fn match_inside<J: Judge>(
     requires judged { MayJudge env.now ctx.now }
     requires pattern { IsPatternIn env.now ctx.now binders values pattern.now }
     requires term { IsTermIn env.now ctx.now term.now }
-    ensures answer { Meets result (left fuel.new) (inside_with env.now ctx.now binders pattern.now term.now values fuel.old) }
+    ensures answer { let run = inside_with env.now ctx.now binders pattern.now term.now values in
+        Meets result (left fuel.new) (run fuel.old) }
     ensures found { IfOk result (Finds env.now ctx.now binders values) }
     ensures kept { IsSpentOf fuel.old fuel.new }
 {
@@ -134,7 +137,8 @@ fn compare<J: Judge>(
     requires judged { MayJudge env.now ctx.now }
     requires filled { IsTermIn env.now ctx.now filled.now }
     requires term { IsTermIn env.now ctx.now term.now }
-    ensures answer { Meets result (left fuel.new) (filled_with env.now ctx.now filled.now term.now values fuel.old) }
+    ensures answer { let run = filled_with env.now ctx.now filled.now term.now values in
+        Meets result (left fuel.new) (run fuel.old) }
     ensures kept { IsSpentOf fuel.old fuel.new }
 {
     let _depth = filled.depth();
@@ -184,7 +188,8 @@ fn match_nodes<J: Judge>(
     requires pattern { IsPatternIn env.now ctx.now binders values pattern.now }
     requires term { IsTermIn env.now ctx.now term.now }
     requires unset { has_unset values pattern.now binders ≡ true }
-    ensures answer { Meets result (left fuel.new) (nodes_with env.now ctx.now binders pattern.now term.now values fuel.old) }
+    ensures answer { let run = nodes_with env.now ctx.now binders pattern.now term.now values in
+        Meets result (left fuel.new) (run fuel.old) }
     ensures found { IfOk result (Finds env.now ctx.now binders values) }
     ensures kept { IsSpentOf fuel.old fuel.new }
 {
@@ -282,7 +287,8 @@ fn match_binder<J: Judge>(
     requires pattern { IsPatternIn env.now ctx.now binders values p.now }
     requires term { IsTermIn env.now ctx.now t.now }
     requires under { IsBinderIn env.now ctx.now values hyp q.now u.now }
-    ensures answer { Meets result (left fuel.new) (binder_with env.now ctx.now hyp binders p.now t.now q.now u.now values fuel.old) }
+    ensures answer { let run = binder_with env.now ctx.now hyp binders p.now t.now q.now u.now values in
+        Meets result (left fuel.new) (run fuel.old) }
     ensures found { IfOk result (Finds env.now ctx.now binders values) }
     ensures kept { IsSpentOf fuel.old fuel.new }
 {
@@ -314,7 +320,8 @@ fn match_under<J: Judge>(
     requires within { binders ≤ length ctx.now }
     requires values { AreValues (length ctx.now - binders) (length env.now) values }
     requires under { IsBinderIn env.now ctx.now values hyp q.now u.now }
-    ensures answer { Meets result (left fuel.new) (under_with env.now ctx.now hyp binders q.now u.now values fuel.old) }
+    ensures answer { let run = under_with env.now ctx.now hyp binders q.now u.now values in
+        Meets result (left fuel.new) (run fuel.old) }
     ensures found { IfOk result (Finds env.now ctx.now binders values) }
     ensures kept { IsSpentOf fuel.old fuel.new }
 {
@@ -348,7 +355,8 @@ fn match_pair<J: Judge>(
     requires first_term { IsTermIn env.now ctx.now t.now }
     requires second { IsPatternIn env.now ctx.now binders values q.now }
     requires second_term { IsTermIn env.now ctx.now u.now }
-    ensures answer { Meets result (left fuel.new) (pair_with env.now ctx.now binders p.now t.now q.now u.now values fuel.old) }
+    ensures answer { let run = pair_with env.now ctx.now binders p.now t.now q.now u.now values in
+        Meets result (left fuel.new) (run fuel.old) }
     ensures found { IfOk result (Finds env.now ctx.now binders values) }
     ensures kept { IsSpentOf fuel.old fuel.new }
 {
@@ -384,7 +392,8 @@ fn match_let<J: Judge>(
     requires second { IsPatternIn env.now ctx.now binders values v.now }
     requires second_term { IsTermIn env.now ctx.now w.now }
     requires under { IsBinderIn env.now ctx.now values hyp q.now u.now }
-    ensures answer { Meets result (left fuel.new) (let_with env.now ctx.now hyp binders p.now t.now v.now w.now q.now u.now values fuel.old) }
+    ensures answer { let run = let_with env.now ctx.now hyp binders p.now t.now v.now w.now q.now u.now values in
+        Meets result (left fuel.new) (run fuel.old) }
     ensures found { IfOk result (Finds env.now ctx.now binders values) }
     ensures kept { IsSpentOf fuel.old fuel.new }
 {
