@@ -3,6 +3,7 @@ use Rattle.std.specs.Prelude.{List, [], ◌∷◌, fold}
 use Rattle.prover_iface.specs.Sentences.{Sentence}
 use Rattle.prover_iface.specs.Meanings.{state_behind}
 use Rattle.cic_rules.specs.WellFormed.{Nothing}
+use Rattle.cic_soundness.proofs.GroundedSound.{entries_are_grounded}
 use Rattle.vernac_exec.specs.declared.state.ProverState.{ProverState}
 use Rattle.vernac_exec.specs.Exec.{after}
 use Rattle.vernac_exec.specs.States.{over}
@@ -10,7 +11,7 @@ use Rattle.vernac_exec.specs.Soundness.{IsSound}
 use Rattle.vernac_exec.proofs.SoundStates.{states_are_sound}
 use Rattle.cic_prover.specs.First.{after_all, prelude_sentences, first}
 use Rattle.cic_prover.specs.Exec.{means}
-use Rattle.cic_prover.specs.Soundness.{DocumentsAreSound}
+use Rattle.cic_prover.specs.Soundness.{env_behind, DocumentsAreSound}
 
 sound_behind : (m : ProverState) (sentences : List Sentence) → IsSound m → IsSound (fold after m sentences)
 sound_behind m [] is = is
@@ -27,4 +28,6 @@ documents_are_sound =
     record {
       states = λ sentences. sound_behind first sentences sound_first;
       rows = λ sentences. states_are_sound.grounded (state_behind means sentences) (sound_behind first sentences sound_first);
+      entries = λ sentences place there plain.
+          entries_are_grounded.others (env_behind sentences) (sound_behind first sentences sound_first).environment place there plain;
     }

@@ -11,7 +11,7 @@ use std::alloc::Global;
 
 /// Whether an unset variable stands in a term under so many binders.
 #[tactic(auto, using(crate::proofs::Fillings::settled_above))]
-pub(crate) fn has_unset(values: &Values, t: &Term, binders: u32) -> bool
+pub fn has_unset(values: &Values, t: &Term, binders: u32) -> bool
     requires { binders + depth_of t.now < 2 ^ 32 }
     ensures { result ≡ has_unset values.now t.now binders }
 {
@@ -47,7 +47,8 @@ pub(crate) fn has_unset(values: &Values, t: &Term, binders: u32) -> bool
 
 /// The term with the values put in, where it stands under so many binders. Variables past those of the
 /// pattern come down. A part that has neither is shared. The size of the answer is counted before
-/// anything is built, so that no memory goes into a term that is refused.
+/// anything is built, so that no memory goes into a term that is refused. An unset variable has
+/// nothing to put in: where one stands in the term (`has_unset`), the answer is of no use.
 pub fn fill(alloc: Global, t: &Term, values: &Values, binders: u32) -> Result<Term, TermStop>
     requires room { binders + depth_of t.now < 2 ^ 32 }
     requires numbered { IsNumbered (fill values.now t.now binders) }

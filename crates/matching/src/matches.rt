@@ -19,10 +19,11 @@ use cic_rules::{Context, Fuel, GlobalEnv, Hyp, Judge, Mode, converts};
 use core_term::{Node, Term};
 use std::alloc::Global;
 
-/// The values of a pattern's variables with which it is a term, up to conversion; none where there are
-/// no such values. Both stand under so many binders, those of the pattern's side; its variables stand
-/// behind them, and their values outside of them. It takes units as the rules of proof moves say, and
-/// is never refused.
+/// The values of a pattern's variables with which it is a term: parts without unset variables by
+/// conversion, others node by node, so that there may be none where conversion alone would find some. Both
+/// stand under so many binders, which the context has from the term's side; the pattern's variables
+/// stand behind them, and their values outside of them. It takes units as the rules of proof moves
+/// say, and is never refused.
 #[cycle(matching)]
 pub fn matches<J: Judge>(
     judge: &J,

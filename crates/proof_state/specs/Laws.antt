@@ -24,7 +24,7 @@ pub record StepsKeepGoals : Type 0 where
   pub new : (p : Proof) (n k : ℕ) (s : Partial Goal) (g : Goal) → slice_get (holes s) k ≡ Some g →
       slice_get (refined n s p).proof.goals (length p.goals + k) ≡ Some (Unsolved g)
 
--- where no goal is left open, the term has no hole, and only there
+-- where no goal is unsolved or given up, the term has no hole
 pub record WholeWhereSolved : Type 0 where
   pub whole : (p : Proof) → IsProof p → ((n : ℕ) (g : Goal) → slice_get p.goals n ≢ Some (Unsolved g)) → p.given_up ≡ [] → holes p.term ≡ []
 

@@ -235,6 +235,11 @@ all_rows : (m : ProverState) (kind : ItemKind) (first : Slot) (more : List Slot)
 all_rows m kind first more is rows =
     All-push (IsRowIn (m.env ++ first ∷ more)) m.outline (next_row m kind) (λ k d lt. row_stays m.env (first ∷ more) _ (rows k d lt)) (new_row m kind first more is)
 
+formed_by : (m : ProverState) (r : Result Deed Stop) → ((deed : Deed) → r ≡ Ok deed → IsDeedIn m.env deed) → WfEnv m.env → WfEnv (behind m r).env
+formed_by m (Ok (Declares kind made)) h is = (h (Declares kind made) refl).formed is
+formed_by m (Ok (Answers text)) h is = is
+formed_by m (Err stop) h is = is
+
 after_by : (m : ProverState) (r : Result Deed Stop) → ((deed : Deed) → r ≡ Ok deed → IsDeedIn m.env deed) → IsSound m → IsSound (behind m r)
 after_by m (Ok (Declares kind made)) h is =
     let g = h (Declares kind made) refl in
@@ -255,6 +260,7 @@ pub states_are_sound : StatesAreSound
 states_are_sound =
     record {
       first = λ env wf. record { environment = wf; rows = λ k d h. absurd (omega arith) };
+      formed = λ m s is. formed_by m (whole_run m s).answer (λ deed e. (sentence_does m.env NESTING_LIMIT s.kind s.text).tells _ deed e) is;
       after = λ m s is. after_by m (whole_run m s).answer (λ deed e. (sentence_does m.env NESTING_LIMIT s.kind s.text).tells _ deed e) is;
       grounded = λ m is k d lt. let row = is.rows k d lt in grounded_by m.env is.environment _ _ row.there row.kind;
     }

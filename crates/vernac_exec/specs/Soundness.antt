@@ -37,5 +37,7 @@ AreGrounded m = All (λ row. IsGrounded m.env (rests_on m.env row) row.place) m.
 
 pub record StatesAreSound : Type 0 where
   pub first : (env : List Slot) → WfEnv env → IsSound (over env)
+  -- a sentence keeps a well formed environment, whatever the rows
+  pub formed : (m : ProverState) (s : Sentence) → WfEnv m.env → WfEnv (after m s).env
   pub after : (m : ProverState) (s : Sentence) → IsSound m → IsSound (after m s)
   pub grounded : (m : ProverState) → IsSound m → AreGrounded m
