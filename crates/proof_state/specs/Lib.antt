@@ -1,0 +1,10 @@
+pub mod Partial
+pub mod PartialCode
+pub mod Nodes
+pub mod Proof
+pub mod Steps
+pub mod Table
+pub mod Numbering
+pub mod Closing
+pub mod IsProof
+pub mod Laws
