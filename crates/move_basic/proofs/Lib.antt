@@ -1,0 +1,2 @@
+pub mod FuelOfRows
+pub mod FuelOfMoves

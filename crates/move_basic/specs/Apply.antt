@@ -1,0 +1,77 @@
+-- A term applied to arguments, of which some are found by matching its type and the others become goals.
+use Rattle.std.specs.Prelude.{ℕ, zero, suc, ◌+◌, nat_lt, List, length, Bool, false, ◌||◌, Option, Some, None}
+use Rattle.base_core.specs.declared.refusal_codes.TheConstants.{NOT_DETERMINED, NO_MATCH}
+use Rattle.core_term.specs.Tree.{Tree, Prod}
+use Rattle.core_term.specs.Places.{lift_of, occurrences}
+use Rattle.term_spine.specs.Spine.{count_products, end_of_products}
+use Rattle.cic_rules.specs.declared.context.Hyp.{Hyp}
+use Rattle.cic_rules.specs.declared.env.Slot.{Slot}
+use Rattle.cic_rules.specs.Infer.{infer_at, check_at}
+use Rattle.cic_rules.specs.Runs.{Run, ◌>>=◌, ◌>>◌, pure, refuse, forbid, check_size, some_or}
+use Rattle.matching.specs.Patterns.{Values, unset_values, value_at, fill}
+use Rattle.matching.specs.Match.{match_at}
+use Rattle.proof_state.specs.declared.goals.Goal.{Goal}
+use Rattle.proof_state.specs.Partial.{Partial, Ready, Applies}
+use Rattle.move_basic.specs.Intro.{hole}
+
+-- one of the next domains speaks of the variable at a place
+abbrev pub is_used_later : ℕ → Tree → ℕ → Bool
+is_used_later zero ty at = false
+is_used_later (suc count) (Prod n a b) at = nat_lt 0 (occurrences a at) || is_used_later count b (at + 1)
+is_used_later (suc count) ty at = false
+
+-- the type of a product's variable, which with those behind it makes so many: as it stands behind all of them, with their values
+abbrev pub argument_type : Values → ℕ → Tree → Tree
+argument_type values count a = fill values (lift_of a count 0) 0
+
+-- values that were found, or what else is tried
+abbrev pub or_else : Option Values → Run Values → Run Values
+or_else None rest = rest
+or_else (Some values) rest = pure values
+
+module _ (env : List Slot) (calls : ℕ) where
+  -- a type behind so many products against the goal's
+  abbrev pub matched : List Hyp → Tree → ℕ → Tree → Run (Option Values)
+  matched ctx ty count t = match_at env calls ctx 0 t ty (unset_values count)
+
+  -- the values of the first that matches: this one, which stands behind so many products, or one behind more of them
+  abbrev pub first_match : List Hyp → Tree → ℕ → Tree → Run Values
+  first_match ctx ty count (Prod n a b) = do
+    found ← matched ctx ty count (Prod n a b)
+    or_else found (first_match ctx ty (count + 1) b)
+  first_match ctx ty count t = do
+    found ← matched ctx ty count t
+    or_else found (refuse NO_MATCH)
+
+  -- an argument of this type: its value is checked; one that is unset and not used later becomes a goal
+  abbrev pub argument : List Hyp → Tree → Bool → Option Tree → Run (Partial Goal)
+  argument ctx a used None = do
+    forbid used NOT_DETERMINED
+    check_size a
+    pure (hole ctx a)
+  argument ctx a used (Some v) = do
+    check_size a
+    _ ← check_at env calls ctx v a
+    pure (Ready v)
+
+  -- a function of this type with its arguments, of which so many are left
+  abbrev pub with_arguments : List Hyp → Values → ℕ → Tree → Partial Goal → Run (Partial Goal)
+  with_arguments ctx values (suc count) (Prod n a b) function = do
+    x ← argument ctx (argument_type values (suc count) a) (is_used_later count b 0) (value_at values count)
+    with_arguments ctx values count b (Applies function x)
+  with_arguments ctx values count ty function = pure function
+
+  -- `apply`
+  abbrev pub apply : List Hyp → Tree → Tree → Run (Partial Goal)
+  apply ctx ty t = do
+    i ← infer_at env calls ctx t
+    values ← first_match ctx ty 0 i.ty
+    with_arguments ctx values (length values) i.ty (Ready t)
+
+  -- the same with all of the term's arguments
+  abbrev pub apply_to_all : List Hyp → Tree → Tree → Run (Partial Goal)
+  apply_to_all ctx ty t = do
+    i ← infer_at env calls ctx t
+    found ← matched ctx ty (count_products i.ty) (end_of_products i.ty)
+    values ← some_or NO_MATCH found
+    with_arguments ctx values (length values) i.ty (Ready t)
