@@ -1,2 +1,3 @@
 pub mod FuelOfRows
 pub mod FuelOfMoves
+pub mod Samples
