@@ -17,21 +17,17 @@ use Rattle.matching.specs.Patterns.{Values, unset_values, value_at}
 use Rattle.matching.proofs.FuelOfMatch.{fuel_of_match}
 use Rattle.proof_state.specs.declared.goals.Goal.{Goal}
 use Rattle.proof_state.specs.Partial.{Partial, Ready, Applies}
+use Rattle.move_basic.specs.declared.equality.Equation.{Equation}
 use Rattle.move_basic.specs.declared.opening.Opening.{Opening}
-use Rattle.move_basic.specs.Names.{new_name}
 use Rattle.move_basic.specs.Intro.{hole, opening_of, entered, opened_by, opened, intro, intros_named, intros_all, intros}
 use Rattle.move_basic.specs.Terms.{exact, tried, assumed, assumption}
 use Rattle.move_basic.specs.Apply.{is_used_later, argument_type, or_else, matched, first_match, argument, with_arguments, apply, apply_to_all}
 use Rattle.move_basic.specs.Constructors.{construct}
-use Rattle.move_basic.specs.Equality.{reflexivity}
-
-law_new_name : (env : List Slot) (ctx : List Hyp) (w : Option Word) (n : List ℕ) (a : Tree) → KeepsLawOfFuel (new_name env ctx w n a)
-law_new_name env ctx None n a = search (fuel_laws)
-law_new_name env ctx (Some w) n a = search (fuel_laws)
+use Rattle.move_basic.specs.Equality.{by_sides, reflexivity}
 
 law_entered : (env : List Slot) (ctx : List Hyp) (w : Option Word) (h : Hyp) (rest : List Hyp → Run (Partial Goal)) →
     ((inner : List Hyp) → KeepsLawOfFuel (rest inner)) → KeepsLawOfFuel (entered env ctx w h rest)
-law_entered env ctx w h rest rests = search (fuel_laws, law_new_name, rests) depth 12
+law_entered env ctx w h rest rests = search (fuel_laws, rests) depth 12
 
 law_opened_by : (env : List Slot) (calls : ℕ) (ctx : List Hyp) (ty : Tree) (o : Option Opening) → KeepsLawOfFuel (opened_by env calls ctx ty o)
 law_opened_by env calls ctx ty (Some o) = search (fuel_laws)
@@ -128,5 +124,8 @@ pub law_construct : (env : List Slot) (calls count index code : ℕ) (ctx : List
     KeepsLawOfFuel (construct env calls count index code ctx ty)
 law_construct env calls count index code ctx ty = search (fuel_laws, fuel_of_reduction, law_apply_to_all) depth 12
 
+law_by_sides : (env : List Slot) (calls : ℕ) (ctx : List Hyp) (e : Equation) → KeepsLawOfFuel (by_sides env calls ctx e)
+law_by_sides env calls ctx e = search (fuel_laws, fuel_of_conversion) depth 12
+
 pub law_reflexivity : (env : List Slot) (calls : ℕ) (ctx : List Hyp) (ty : Tree) → KeepsLawOfFuel (reflexivity env calls ctx ty)
-law_reflexivity env calls ctx ty = search (fuel_laws, fuel_of_reduction, fuel_of_conversion) depth 12
+law_reflexivity env calls ctx ty = search (fuel_laws, fuel_of_reduction, law_by_sides) depth 12

@@ -1,24 +1,25 @@
 -- Rows that calls of their own answer, on some fuel: with its units, and with so many more judgements in one another.
-use Rattle.std.specs.Prelude.{ℕ, List, Bool, Option}
+use Rattle.std.specs.Prelude.{ℕ, List, Bool, Option, None, Some}
 use Rattle.coq_syntax.specs.declared.words.Word.{Word}
 use Rattle.coq_syntax.specs.MoveTrees.{Move}
 use Rattle.core_term.specs.Tree.{Tree}
 use Rattle.cic_rules.specs.declared.context.Hyp.{Hyp}
 use Rattle.cic_rules.specs.declared.env.Slot.{Slot}
 use Rattle.cic_rules.specs.Fuel.{FuelState, left, calls_left}
-use Rattle.cic_rules.specs.Runs.{Ran}
+use Rattle.cic_rules.specs.Runs.{Ran, Run, pure}
 use Rattle.matching.specs.Patterns.{Values}
 use Rattle.proof_state.specs.declared.goals.Goal.{Goal}
 use Rattle.proof_state.specs.declared.state.Filling.{Filling}
 use Rattle.proof_state.specs.declared.state.Refined.{Refined}
 use Rattle.proof_state.specs.Partial.{Partial}
 use Rattle.proof_state.specs.Proof.{Proof}
+use Rattle.move_basic.specs.declared.equality.Equation.{Equation}
 use Rattle.move_basic.specs.declared.opening.Opening.{Opening}
-use Rattle.move_basic.specs.Intro.{opened, intro, intros_named, intros}
+use Rattle.move_basic.specs.Intro.{opened, intro, intros_named, intros_all, intros, entered, hole}
 use Rattle.move_basic.specs.Terms.{exact, tried, assumed, assumption}
 use Rattle.move_basic.specs.Apply.{first_match, argument, with_arguments, apply, apply_to_all}
 use Rattle.move_basic.specs.Constructors.{construct}
-use Rattle.move_basic.specs.Equality.{reflexivity}
+use Rattle.move_basic.specs.Equality.{by_sides, reflexivity}
 use Rattle.move_basic.specs.Moves.{run_basic, run_move}
 
 module _ (env : List Slot) (ctx : List Hyp) (ty : Tree) where
@@ -60,6 +61,21 @@ module _ (env : List Slot) (ctx : List Hyp) (ty : Tree) where
 
   abbrev pub reflexivity_with : FuelState → Ran (Partial Goal)
   reflexivity_with f = reflexivity env (calls_left f) ctx ty (left f)
+
+-- the goal behind a binder
+abbrev pub one_binder : List Slot → List Hyp → Option Word → Opening → Run (Partial Goal)
+one_binder env ctx w o = entered env ctx w o.hyp (λ inner. pure (hole inner o.under))
+
+-- the goal behind a binder of this name, and then behind those of more names
+abbrev pub named_behind : List Slot → List Hyp → Word → Opening → List Word → FuelState → Ran (Partial Goal)
+named_behind env ctx w o ws f = entered env ctx (Some w) o.hyp (λ inner. intros_named env (calls_left f) ws inner o.under) (left f)
+
+-- a type behind a hypothesis that has no name yet, whose binders get their names
+abbrev pub entered_all : List Slot → List Hyp → Hyp → Tree → Run (Partial Goal)
+entered_all env ctx h under = entered env ctx None h (λ inner. intros_all env inner under)
+
+abbrev pub by_sides_with : List Slot → List Hyp → Equation → FuelState → Ran (Partial Goal)
+by_sides_with env ctx e f = by_sides env (calls_left f) ctx e (left f)
 
 -- of an argument's type
 abbrev pub argument_with : List Slot → List Hyp → Tree → Bool → Option Tree → FuelState → Ran (Partial Goal)

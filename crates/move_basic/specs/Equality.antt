@@ -13,11 +13,15 @@ use Rattle.proof_state.specs.declared.goals.Goal.{Goal}
 use Rattle.proof_state.specs.Partial.{Partial, Ready}
 use Rattle.move_basic.specs.declared.equality.Equation.{Equation}
 
--- by the places of `eq`, its constructor and its eliminator into `Prop`
+-- by the places of `eq` and of its constructor
+abbrev pub sides_of : ℕ → ℕ → Tree → Option Equation
+sides_of eq same (App (App (App (Constant c) a) l) r) = if c == eq then Some (record { same = same; ty = a; left = l; right = r }) else None
+sides_of eq same _ = None
+
+-- .. and of its eliminator into `Prop`
 abbrev pub equation_by : Option ℕ → Option ℕ → Option ℕ → Tree → Option Equation
-equation_by (Some eq) (Some same) (Some by) (App (App (App (Constant c) a) l) r) =
-    if c == eq then Some (record { same = same; ty = a; left = l; right = r }) else None
-equation_by _ _ _ _ = None
+equation_by (Some eq) (Some same) (Some by) t = sides_of eq same t
+equation_by _ _ _ t = None
 
 -- an equation; none is one where the environment lacks `eq`, its constructor or its eliminator
 abbrev pub equation_of : List Slot → Tree → Option Equation
@@ -27,12 +31,17 @@ equation_of env t = equation_by (place_in env (codes "eq")) (place_in env (codes
 abbrev pub reflexive : Equation → Tree
 reflexive e = App (App (Constant e.same) e.ty) e.left
 
+-- the term for an equation, whose sides must be convertible
+abbrev pub by_sides : List Slot → ℕ → List Hyp → Equation → Run (Partial Goal)
+by_sides env calls ctx e = do
+  same ← conv_at env calls ctx Same e.left e.right
+  require same NOT_CONVERTIBLE
+  check_size (reflexive e)
+  pure (Ready (reflexive e))
+
 -- `reflexivity`
 abbrev pub reflexivity : List Slot → ℕ → List Hyp → Tree → Run (Partial Goal)
 reflexivity env calls ctx ty = do
   reduced ← whnf_at env true calls ctx ty
   e ← some_or NOT_AN_EQUALITY (equation_of env reduced)
-  same ← conv_at env calls ctx Same e.left e.right
-  require same NOT_CONVERTIBLE
-  check_size (reflexive e)
-  pure (Ready (reflexive e))
+  by_sides env calls ctx e

@@ -9,10 +9,11 @@ use Rattle.cic_rules.specs.Contexts.{plain_hyp, defined_hyp}
 use Rattle.cic_rules.specs.Convert.{with_hyp}
 use Rattle.cic_rules.specs.Reduce.{whnf_at}
 use Rattle.cic_rules.specs.Runs.{Run, ◌>>=◌, pure, some_or}
+use Rattle.cic_rules.specs.Steps.{take_step}
 use Rattle.proof_state.specs.declared.goals.Goal.{Goal}
 use Rattle.proof_state.specs.Partial.{Partial, Hole, Abstracts, Defines}
 use Rattle.move_basic.specs.declared.opening.Opening.{Opening}
-use Rattle.move_basic.specs.Names.{new_name}
+use Rattle.move_basic.specs.Names.{shown_names, new_name}
 
 -- a type's binder as a hypothesis, and what stands under it
 abbrev pub opening : Hyp → Tree → Opening
@@ -42,7 +43,7 @@ named h n = record h { name = n }
 -- a goal behind one more hypothesis, which is named first
 abbrev pub entered : List Slot → List Hyp → Option Word → Hyp → (List Hyp → Run (Partial Goal)) → Run (Partial Goal)
 entered env ctx w h rest = do
-  n ← new_name env ctx w h.name h.ty
+  n ← take_step (new_name env (shown_names ctx) w h.name h.ty)
   inner ← with_hyp ctx (named h n)
   s ← rest inner
   pure (under_hyp (named h n) s)

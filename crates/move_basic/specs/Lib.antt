@@ -1,4 +1,5 @@
 pub mod Names
+pub mod Naming
 pub mod Intro
 pub mod Terms
 pub mod Apply

@@ -1,20 +1,35 @@
 -- What stands in scope: goals, and sketches for them.
-use Rattle.std.specs.Prelude.{◌≡◌, List, [], ◌∷◌, Option, Some}
+use Rattle.std.specs.Prelude.{◌≡◌, ◌<◌, suc, List, [], ◌∷◌, length, Option, Some}
 use Rattle.cic_rules.specs.declared.context.Hyp.{Hyp}
 use Rattle.cic_rules.specs.declared.env.Slot.{Slot}
 use Rattle.cic_rules.specs.Contexts.{plain_hyp, defined_hyp}
 use Rattle.cic_rules.specs.Judges.{MayJudge, IsTermIn}
+use Rattle.cic_rules.specs.Scopes.{IsScoped, IsScopedHyp}
 use Rattle.proof_state.specs.declared.goals.Goal.{Goal}
 use Rattle.proof_state.specs.declared.state.Filling.{Filling}
 use Rattle.proof_state.specs.declared.state.Filling.TheVariants.{Give, Admit}
 use Rattle.proof_state.specs.Partial.{Partial, Ready, Hole, Abstracts, Defines, Applies}
 use Rattle.proof_state.specs.Proof.{Proof, GoalStatus, Unsolved, GivenUp, Solved}
 use Rattle.proof_state.specs.Steps.{unnamed}
+use Rattle.move_basic.specs.declared.equality.Equation.{Equation}
+use Rattle.move_basic.specs.declared.opening.Opening.{Opening}
 
 -- a goal speaks of its hypotheses and of globals alone
 pub record IsGoalIn (env : List Slot) (g : Goal) : Type 0 where
   pub judged : MayJudge env g.ctx
   pub ty : IsTermIn env g.ctx g.ty
+
+-- a type's binder, and what stands under it
+pub record IsOpeningIn (env : List Slot) (ctx : List Hyp) (o : Opening) : Type 0 where
+  pub hyp : IsScopedHyp (length ctx) (length env) o.hyp
+  pub under : IsScoped (suc (length ctx)) (length env) o.under
+
+-- an equation
+pub record IsEquationIn (env : List Slot) (ctx : List Hyp) (e : Equation) : Type 0 where
+  pub same : e.same < length env
+  pub ty : IsTermIn env ctx e.ty
+  pub left : IsTermIn env ctx e.left
+  pub right : IsTermIn env ctx e.right
 
 -- so does each goal of a sketch, which stands in the context of its hole, names aside
 abbrev pub IsSketchIn : List Slot → List Hyp → Partial Goal → Type 0

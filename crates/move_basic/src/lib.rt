@@ -3,7 +3,12 @@
 #![tactic(auto)]
 
 mod equality;
+mod introduction;
 mod laws;
+mod names;
+mod naming;
 mod opening;
+mod refusals;
+mod whole_terms;
 
 pub use laws::law_of_fuel;
