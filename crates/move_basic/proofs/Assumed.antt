@@ -1,6 +1,6 @@
 -- The search for a hypothesis, one by one.
-use Rattle.std.specs.Prelude.{◌≡◌, ℕ, suc, ◌+◌, ◌-◌, ◌≤◌, List, [], ◌∷◌, length, drop, Bool, true, false, Option, Some, None, Result, Ok, Err, slice_get, if◌then◌else◌, refl}
-use Rattle.std.proofs.Common.{ap, sym, ◌∙◌, subst, arith}
+use Rattle.std.specs.Prelude.{◌≡◌, ℕ, ◌+◌, ◌-◌, ◌≤◌, List, ◌∷◌, length, drop, Bool, true, false, Some, Result, Ok, Err, slice_get, if◌then◌else◌}
+use Rattle.std.proofs.Common.{ap, sym, ◌∙◌, arith}
 use Rattle.base_core.specs.declared.refusals.Stop.{Stop}
 use Rattle.base_core.specs.declared.refusals.Stop.TheVariants.{Refused, Out, NoMem}
 use Rattle.base_core.specs.declared.refusal_codes.TheConstants.{NO_ASSUMPTION}
@@ -9,11 +9,11 @@ use Rattle.cic_rules.specs.declared.context.Hyp.{Hyp}
 use Rattle.cic_rules.specs.declared.env.Slot.{Slot}
 use Rattle.cic_rules.specs.Fuel.{FuelState, NESTING_LIMIT, left, calls_left, IsSpentOf}
 use Rattle.cic_rules.specs.Judges.{Meets}
-use Rattle.cic_rules.specs.Runs.{Ran, Run, and_then, pure, give, refuse}
+use Rattle.cic_rules.specs.Runs.{Ran, Run, and_then, pure, refuse}
 use Rattle.proof_state.specs.declared.goals.Goal.{Goal}
 use Rattle.proof_state.specs.Partial.{Partial, Ready}
-use Rattle.move_basic.specs.Terms.{tried, assumed}
-use Rattle.move_basic.specs.Calls.{tried_with, assumed_with, assumption_with}
+use Rattle.move_basic.specs.Terms.{assumed}
+use Rattle.move_basic.specs.Calls.{tried_with, assumed_with}
 use Rattle.move_basic.proofs.Lists.{from_place, all_behind}
 
 pub spent_through : (f g h : FuelState) → IsSpentOf f g → IsSpentOf g h → IsSpentOf f h

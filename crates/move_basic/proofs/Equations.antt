@@ -1,7 +1,7 @@
 -- Equations in scope.
 use Rattle.std.specs.Prelude.{◌≡◌, ◌==◌, ◌<◌, ℕ, List, length, Bool, true, false, Option, Some, None, refl, if◌then◌else◌, codes}
 use Rattle.std.proofs.Common.{subst}
-use Rattle.core_term.specs.Tree.{Tree, Var, Sorted, Constant, Prod, Lam, LetIn, App}
+use Rattle.core_term.specs.Tree.{Tree, Constant, App}
 use Rattle.cic_rules.specs.declared.context.Hyp.{Hyp}
 use Rattle.cic_rules.specs.declared.env.Slot.{Slot}
 use Rattle.cic_rules.specs.Environments.{place_in}

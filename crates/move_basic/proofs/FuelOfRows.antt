@@ -1,5 +1,5 @@
 -- The law of fuel for each row.
-use Rattle.std.specs.Prelude.{ℕ, zero, suc, ◌+◌, List, [], ◌∷◌, Bool, false, Option, Some, None}
+use Rattle.std.specs.Prelude.{ℕ, suc, ◌+◌, ◌-◌, ◌==◌, List, [], ◌∷◌, Bool, false, Option, Some, None}
 use Rattle.coq_syntax.specs.declared.words.Word.{Word}
 use Rattle.core_term.specs.Tree.{Tree, Var, Sorted, Constant, Prod, Lam, LetIn, App}
 use Rattle.core_term.specs.Places.{lift_of}
@@ -103,16 +103,16 @@ law_argument env calls ctx a used (Some v) = search (fuel_laws, fuel_of_checks) 
 
 law_arguments : (env : List Slot) (calls : ℕ) (ctx : List Hyp) (values : Values) (count : ℕ) (ty : Tree) (f : Partial Goal) →
     KeepsLawOfFuel (with_arguments env calls ctx values count ty f)
-law_arguments env calls ctx values (suc count) (Prod n a b) f =
-    law_bind (law_argument env calls ctx (argument_type values (suc count) a) (is_used_later count b 0) (value_at values count))
-    (λ x. law_arguments env calls ctx values count b (Applies f x))
-law_arguments env calls ctx values zero ty f = search (fuel_laws)
-law_arguments env calls ctx values (suc count) (Var i) f = search (fuel_laws)
-law_arguments env calls ctx values (suc count) (Sorted s) f = search (fuel_laws)
-law_arguments env calls ctx values (suc count) (Constant c) f = search (fuel_laws)
-law_arguments env calls ctx values (suc count) (Lam n a b) f = search (fuel_laws)
-law_arguments env calls ctx values (suc count) (LetIn n a t b) f = search (fuel_laws)
-law_arguments env calls ctx values (suc count) (App g a) f = search (fuel_laws)
+law_arguments env calls ctx values count (Prod n a b) f =
+    law_if (count == 0) (law_pure f)
+    (law_bind (law_argument env calls ctx (argument_type values count a) (is_used_later (count - 1) b 0) (value_at values (count - 1)))
+    (λ x. law_arguments env calls ctx values (count - 1) b (Applies f x)))
+law_arguments env calls ctx values count (Var i) f = law_pure f
+law_arguments env calls ctx values count (Sorted s) f = law_pure f
+law_arguments env calls ctx values count (Constant c) f = law_pure f
+law_arguments env calls ctx values count (Lam n a b) f = law_pure f
+law_arguments env calls ctx values count (LetIn n a t b) f = law_pure f
+law_arguments env calls ctx values count (App g a) f = law_pure f
 
 pub law_apply : (env : List Slot) (calls : ℕ) (ctx : List Hyp) (ty t : Tree) → KeepsLawOfFuel (apply env calls ctx ty t)
 law_apply env calls ctx ty t = search (fuel_laws, fuel_of_inference, law_first_match, law_arguments) depth 12

@@ -1,5 +1,5 @@
 -- Hypotheses as they stand in their context.
-use Rattle.std.specs.Prelude.{◌≡◌, ℕ, suc, List, length, Option, Some}
+use Rattle.std.specs.Prelude.{◌≡◌, ℕ, List, length, Some}
 use Rattle.core_term.specs.Tree.{Tree}
 use Rattle.cic_rules.specs.declared.context.Hyp.{Hyp}
 use Rattle.cic_rules.specs.declared.env.Slot.{Slot}

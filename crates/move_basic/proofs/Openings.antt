@@ -1,12 +1,12 @@
 -- What stands in scope behind a binder.
-use Rattle.std.specs.Prelude.{◌≡◌, ℕ, suc, List, ◌∷◌, length, Option, Some, None}
+use Rattle.std.specs.Prelude.{◌≡◌, ℕ, List, ◌∷◌, length, Option, Some, None}
 use Rattle.std.proofs.Common.{subst}
 use Rattle.core_term.specs.Tree.{Tree, Var, Sorted, Constant, Prod, Lam, LetIn, App}
 use Rattle.cic_rules.specs.declared.context.Hyp.{Hyp}
 use Rattle.cic_rules.specs.declared.env.Slot.{Slot}
 use Rattle.cic_rules.specs.Contexts.{IsInIfAny, IsHypAt}
 use Rattle.cic_rules.specs.Judges.{MayJudge, IsTermIn}
-use Rattle.cic_rules.specs.Scopes.{IsScoped, IsScopedIfAny, IsScopedHyp}
+use Rattle.cic_rules.specs.Scopes.{IsScopedIfAny, IsScopedHyp}
 use Rattle.cic_rules.proofs.ScopeLaws.{scoped_free}
 use Rattle.proof_state.specs.declared.goals.Goal.{Goal}
 use Rattle.proof_state.specs.Partial.{Partial}

@@ -1,5 +1,5 @@
 -- A term applied to arguments, of which some are found by matching its type and the others become goals.
-use Rattle.std.specs.Prelude.{ℕ, zero, suc, ◌+◌, nat_lt, List, length, Bool, false, ◌||◌, Option, Some, None}
+use Rattle.std.specs.Prelude.{ℕ, ◌+◌, ◌-◌, ◌==◌, nat_lt, List, length, Bool, false, ◌||◌, Option, Some, None, if◌then◌else◌}
 use Rattle.base_core.specs.declared.refusal_codes.TheConstants.{NOT_DETERMINED, NO_MATCH}
 use Rattle.core_term.specs.Tree.{Tree, Prod}
 use Rattle.core_term.specs.Places.{lift_of, occurrences}
@@ -14,11 +14,10 @@ use Rattle.proof_state.specs.declared.goals.Goal.{Goal}
 use Rattle.proof_state.specs.Partial.{Partial, Ready, Applies}
 use Rattle.move_basic.specs.Intro.{hole}
 
--- one of the next domains speaks of the variable at a place
+-- one of the next domains, so many, speaks of the variable at a place
 abbrev pub is_used_later : ℕ → Tree → ℕ → Bool
-is_used_later zero ty at = false
-is_used_later (suc count) (Prod n a b) at = nat_lt 0 (occurrences a at) || is_used_later count b (at + 1)
-is_used_later (suc count) ty at = false
+is_used_later count (Prod n a b) at = if count == 0 then false else (nat_lt 0 (occurrences a at) || is_used_later (count - 1) b (at + 1))
+is_used_later count _ at = false
 
 -- the type of a product's variable, which with those behind it makes so many: as it stands behind all of them, with their values
 abbrev pub argument_type : Values → ℕ → Tree → Tree
@@ -56,10 +55,12 @@ module _ (env : List Slot) (calls : ℕ) where
 
   -- a function of this type with its arguments, of which so many are left
   abbrev pub with_arguments : List Hyp → Values → ℕ → Tree → Partial Goal → Run (Partial Goal)
-  with_arguments ctx values (suc count) (Prod n a b) function = do
-    x ← argument ctx (argument_type values (suc count) a) (is_used_later count b 0) (value_at values count)
-    with_arguments ctx values count b (Applies function x)
-  with_arguments ctx values count ty function = pure function
+  with_arguments ctx values count (Prod n a b) function =
+      if count == 0 then pure function
+      else (do
+        x ← argument ctx (argument_type values count a) (is_used_later (count - 1) b 0) (value_at values (count - 1))
+        with_arguments ctx values (count - 1) b (Applies function x))
+  with_arguments ctx values count _ function = pure function
 
   -- `apply`
   abbrev pub apply : List Hyp → Tree → Tree → Run (Partial Goal)

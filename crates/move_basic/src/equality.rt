@@ -66,7 +66,16 @@ fn by_sides<J: Judge>(
     ensures sketch { IfOk result (IsSketchIn env.now ctx.now) }
     ensures kept { IsSpentOf fuel.old fuel.new }
 {
-    match converts(judge, alloc, env, ctx, &equation.left, &equation.right, Mode::Same, fuel) {
+    match converts(
+        judge,
+        alloc,
+        env,
+        ctx,
+        &equation.left,
+        &equation.right,
+        Mode::Same,
+        fuel,
+    ) {
         Ok(true) => {
             let proof = reflexive(alloc, equation)?;
             Ok(Sketch::ready(proof))
@@ -103,13 +112,25 @@ fn equation_of(alloc: Global, env: &GlobalEnv, t: &Term) -> Result<Option<Equati
 fn sides_of(eq: u32, same: u32, t: &Term) -> Result<Option<Equation>, NoMem>
     ensures { IfOk result (λ e. e ≡ sides_of eq same t.now) }
 {
-    let Node::App { function, argument: right } = t.node() else {
+    let Node::App {
+        function,
+        argument: right,
+    } = t.node()
+    else {
         return Ok(None);
     };
-    let Node::App { function, argument: left } = function.node() else {
+    let Node::App {
+        function,
+        argument: left,
+    } = function.node()
+    else {
         return Ok(None);
     };
-    let Node::App { function, argument: ty } = function.node() else {
+    let Node::App {
+        function,
+        argument: ty,
+    } = function.node()
+    else {
         return Ok(None);
     };
     let Node::Constant(c) = function.node() else {

@@ -124,7 +124,18 @@ fn intros_named<J: Judge>(
         return Ok(sketch);
     };
     match opened(judge, alloc, env, ctx, ty, fuel) {
-        Ok(opening) => named_behind(judge, alloc, env, ctx, names, word, opening, words, at + 1, fuel),
+        Ok(opening) => named_behind(
+            judge,
+            alloc,
+            env,
+            ctx,
+            names,
+            word,
+            opening,
+            words,
+            at + 1,
+            fuel,
+        ),
         Err(stop) => Err(stop),
     }
 }
@@ -294,12 +305,7 @@ fn given_name(names: &Names, word: &Word) -> Result<Text, Stop>
 
 /// The context behind one more hypothesis.
 #[tactic(auto, using(crate::proofs::Openings::hyp_in, crate::proofs::Openings::judged_behind))]
-fn enter(
-    alloc: Global,
-    env: &GlobalEnv,
-    ctx: &Context,
-    hyp: &Hyp,
-) -> Result<Context, Stop>
+fn enter(alloc: Global, env: &GlobalEnv, ctx: &Context, hyp: &Hyp) -> Result<Context, Stop>
     requires judged { MayJudge env.now ctx.now }
     requires hyp { IsScopedHyp (length ctx.now) (length env.now) hyp.now }
     ensures answer { Gives result (extended ctx.now hyp.now) }
