@@ -1,6 +1,6 @@
 -- The law of fuel for matches.
-use Rattle.std.proofs.Common.{ℕ, zero, suc, List, Bool, true, false, Option, Some, None}
-use Rattle.core_term.specs.Tree.{Tree, Var, Sorted, Constant, Prod, Lam, LetIn, App}
+use Rattle.std.proofs.Common.{ℕ, zero, suc, List, Option, Some, None}
+use Rattle.core_term.specs.Tree.{Tree, Var, Prod, Lam, LetIn, App}
 use Rattle.cic_rules.specs.declared.context.Hyp.{Hyp}
 use Rattle.cic_rules.specs.declared.env.Slot.{Slot}
 use Rattle.cic_rules.specs.Runs.{Run}

@@ -1,3 +1,5 @@
 pub mod FuelOfMatch
+pub mod Fillings
 pub mod Lowerings
 pub mod ValuesKept
+pub mod MatchCalls

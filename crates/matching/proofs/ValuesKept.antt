@@ -25,7 +25,7 @@ same_values values = record { count = refl; kept = λ at v e. e }
 more_values : (values found last : Values) → Extends values found → Extends found last → Extends values last
 more_values values found last a b = record { count = b.count ∙ a.count; kept = λ at v e. b.kept at v (a.kept at v e) }
 
-set_count : (values : Values) (at : ℕ) (v : Option Tree) → length (slice_set values at v) ≡ length values
+pub set_count : (values : Values) (at : ℕ) (v : Option Tree) → length (slice_set values at v) ≡ length values
 set_count [] at v = refl
 set_count (x ∷ values) zero v = refl
 set_count (x ∷ values) (suc at) v = cc (set_count values at v)
@@ -69,7 +69,7 @@ module _ (inner : List Hyp → ℕ → Tree → Tree → Values → Run (Option 
       Tells (match_binder inner ctx h binders p t q u values) (Kept values)
   tells_binder ctx h binders p t q u values =
       tells_bind (inners ctx binders p t values) (λ found kept.
-        tells_if_matched values found (match_under inner ctx h binders q u) kept (tells_under ctx h binders q u))
+      tells_if_matched values found (match_under inner ctx h binders q u) kept (tells_under ctx h binders q u))
 
   tells_nodes : (ctx : List Hyp) (binders : ℕ) (p t : Tree) (values : Values) → has_unset values p binders ≡ true →
       Tells (match_nodes inner ctx binders p t values) (Kept values)
@@ -79,11 +79,11 @@ module _ (inner : List Hyp → ℕ → Tree → Tree → Values → Run (Option 
   tells_nodes ctx binders (Lam n p q) (Lam m t u) values unset = tells_binder ctx (plain_hyp m t) binders p t q u values
   tells_nodes ctx binders (LetIn n p v q) (LetIn m t w u) values unset =
       tells_bind (inners ctx binders p t values) (λ found kept.
-        tells_if_matched values found (match_binder inner ctx (defined_hyp m t w) binders v w q u) kept
-        (tells_binder ctx (defined_hyp m t w) binders v w q u))
+      tells_if_matched values found (match_binder inner ctx (defined_hyp m t w) binders v w q u) kept
+      (tells_binder ctx (defined_hyp m t w) binders v w q u))
   tells_nodes ctx binders (App p q) (App t u) values unset =
       tells_bind (inners ctx binders p t values) (λ found kept.
-        tells_if_matched values found (inner ctx binders q u) kept (inners ctx binders q u))
+      tells_if_matched values found (inner ctx binders q u) kept (inners ctx binders q u))
   tells_nodes ctx binders _ _ values unset = tells_pure None tt
 
 settled : (values : Values) (same : Bool) → Kept values (if same then Some values else None)

@@ -1,5 +1,5 @@
 -- Laws of the definitions.
-use Rattle.std.specs.Prelude.{◌≡◌, ℕ, List, length, Option, Some, slice_get, IfSome}
+use Rattle.std.specs.Prelude.{◌≡◌, ℕ, List, length, Some, slice_get, IfSome}
 use Rattle.core_term.specs.Tree.{Tree}
 use Rattle.core_term.specs.Places.{lift_of}
 use Rattle.cic_rules.specs.declared.context.Hyp.{Hyp}

@@ -2,6 +2,11 @@
 //! apply or rewrite find their arguments by it.
 #![tactic(auto)]
 
+mod filling;
 mod laws;
+mod lowering;
+mod matches;
+mod values;
 
+pub use filling::fill;
 pub use laws::{law_of_fuel, law_of_values};
