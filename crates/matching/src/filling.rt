@@ -11,7 +11,7 @@ use std::alloc::Global;
 
 /// Whether an unset variable stands in a term under so many binders.
 #[tactic(auto, using(crate::proofs::Fillings::settled_above))]
-pub(crate) fn has_unset(values: &Values, t: &Term, binders: u32) -> bool
+pub fn has_unset(values: &Values, t: &Term, binders: u32) -> bool
     requires { binders + depth_of t.now < 2 ^ 32 }
     ensures { result ≡ has_unset values.now t.now binders }
 {

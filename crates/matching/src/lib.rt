@@ -8,5 +8,7 @@ mod lowering;
 mod matches;
 mod values;
 
-pub use filling::fill;
+pub use filling::{fill, has_unset};
 pub use laws::{law_of_fuel, law_of_values};
+pub use matches::matches as match_terms;
+pub use values::Values;
