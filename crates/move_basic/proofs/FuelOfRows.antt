@@ -21,7 +21,7 @@ use Rattle.move_basic.specs.declared.equality.Equation.{Equation}
 use Rattle.move_basic.specs.declared.opening.Opening.{Opening}
 use Rattle.move_basic.specs.Intro.{hole, opening_of, entered, opened_by, opened, intro, intros_named, intros_all, intros}
 use Rattle.move_basic.specs.Terms.{exact, tried, assumed, assumption}
-use Rattle.move_basic.specs.Apply.{is_used_later, argument_type, or_else, matched, first_match, argument, with_arguments, apply, apply_to_all}
+use Rattle.move_basic.specs.Apply.{is_used_later, or_else, matched, last_match, first_match, match_at_end, argument_by, argument, with_arguments, apply, apply_to_all}
 use Rattle.move_basic.specs.Constructors.{construct}
 use Rattle.move_basic.specs.Equality.{by_sides, reflexivity}
 
@@ -81,31 +81,48 @@ law_or_else (Some values) rest law = law_pure values
 law_matched : (env : List Slot) (calls : ℕ) (ctx : List Hyp) (ty : Tree) (count : ℕ) (t : Tree) → KeepsLawOfFuel (matched env calls ctx ty count t)
 law_matched env calls ctx ty count t = fuel_of_match env calls ctx 0 t ty (unset_values count)
 
-law_last : (env : List Slot) (calls : ℕ) (ctx : List Hyp) (ty : Tree) (count : ℕ) (t : Tree) (rest : Run Values) → KeepsLawOfFuel rest →
+law_next : (env : List Slot) (calls : ℕ) (ctx : List Hyp) (ty : Tree) (count : ℕ) (t : Tree) (rest : Run Values) → KeepsLawOfFuel rest →
     KeepsLawOfFuel (matched env calls ctx ty count t >>= (λ found. or_else found rest))
-law_last env calls ctx ty count t rest law = law_bind (law_matched env calls ctx ty count t) (λ found. law_or_else found rest law)
+law_next env calls ctx ty count t rest law = law_bind (law_matched env calls ctx ty count t) (λ found. law_or_else found rest law)
+
+law_last_match : (env : List Slot) (calls : ℕ) (ctx : List Hyp) (ty : Tree) (count : ℕ) (t : Tree) → KeepsLawOfFuel (last_match env calls ctx ty count t)
+law_last_match env calls ctx ty count t = law_next env calls ctx ty count t _ (law_refuse _)
 
 law_first_match : (env : List Slot) (calls : ℕ) (ctx : List Hyp) (ty : Tree) (count : ℕ) (t : Tree) →
     KeepsLawOfFuel (first_match env calls ctx ty count t)
 law_first_match env calls ctx ty count (Prod n a b) =
-    law_last env calls ctx ty count (Prod n a b) _ (law_first_match env calls ctx ty (count + 1) b)
-law_first_match env calls ctx ty count (Var i) = law_last env calls ctx ty count (Var i) _ (law_refuse _)
-law_first_match env calls ctx ty count (Sorted s) = law_last env calls ctx ty count (Sorted s) _ (law_refuse _)
-law_first_match env calls ctx ty count (Constant c) = law_last env calls ctx ty count (Constant c) _ (law_refuse _)
-law_first_match env calls ctx ty count (Lam n a b) = law_last env calls ctx ty count (Lam n a b) _ (law_refuse _)
-law_first_match env calls ctx ty count (LetIn n a t b) = law_last env calls ctx ty count (LetIn n a t b) _ (law_refuse _)
-law_first_match env calls ctx ty count (App f a) = law_last env calls ctx ty count (App f a) _ (law_refuse _)
+    law_next env calls ctx ty count (Prod n a b) _ (law_first_match env calls ctx ty (count + 1) b)
+law_first_match env calls ctx ty count (Var i) = law_last_match env calls ctx ty count (Var i)
+law_first_match env calls ctx ty count (Sorted s) = law_last_match env calls ctx ty count (Sorted s)
+law_first_match env calls ctx ty count (Constant c) = law_last_match env calls ctx ty count (Constant c)
+law_first_match env calls ctx ty count (Lam n a b) = law_last_match env calls ctx ty count (Lam n a b)
+law_first_match env calls ctx ty count (LetIn n a t b) = law_last_match env calls ctx ty count (LetIn n a t b)
+law_first_match env calls ctx ty count (App f a) = law_last_match env calls ctx ty count (App f a)
 
-law_argument : (env : List Slot) (calls : ℕ) (ctx : List Hyp) (a : Tree) (used : Bool) (v : Option Tree) →
-    KeepsLawOfFuel (argument env calls ctx a used v)
-law_argument env calls ctx a used None = search (fuel_laws) depth 12
-law_argument env calls ctx a used (Some v) = search (fuel_laws, fuel_of_checks) depth 12
+law_match_at_end : (env : List Slot) (calls : ℕ) (ctx : List Hyp) (ty : Tree) (count : ℕ) (t : Tree) →
+    KeepsLawOfFuel (match_at_end env calls ctx ty count t)
+law_match_at_end env calls ctx ty count (Prod n a b) = law_match_at_end env calls ctx ty (count + 1) b
+law_match_at_end env calls ctx ty count (Var i) = law_last_match env calls ctx ty count (Var i)
+law_match_at_end env calls ctx ty count (Sorted s) = law_last_match env calls ctx ty count (Sorted s)
+law_match_at_end env calls ctx ty count (Constant c) = law_last_match env calls ctx ty count (Constant c)
+law_match_at_end env calls ctx ty count (Lam n a b) = law_last_match env calls ctx ty count (Lam n a b)
+law_match_at_end env calls ctx ty count (LetIn n a t b) = law_last_match env calls ctx ty count (LetIn n a t b)
+law_match_at_end env calls ctx ty count (App f a) = law_last_match env calls ctx ty count (App f a)
+
+law_argument_by : (env : List Slot) (calls : ℕ) (ctx : List Hyp) (a : Tree) (used : Bool) (v : Option Tree) →
+    KeepsLawOfFuel (argument_by env calls ctx a used v)
+law_argument_by env calls ctx a used None = search (fuel_laws) depth 12
+law_argument_by env calls ctx a used (Some v) = search (fuel_laws, fuel_of_checks) depth 12
+
+law_argument : (env : List Slot) (calls : ℕ) (ctx : List Hyp) (values : Values) (count : ℕ) (a : Tree) (used : Bool) →
+    KeepsLawOfFuel (argument env calls ctx values count a used)
+law_argument env calls ctx values count a used = search (fuel_laws, law_argument_by) depth 12
 
 law_arguments : (env : List Slot) (calls : ℕ) (ctx : List Hyp) (values : Values) (count : ℕ) (ty : Tree) (f : Partial Goal) →
     KeepsLawOfFuel (with_arguments env calls ctx values count ty f)
 law_arguments env calls ctx values count (Prod n a b) f =
     law_if (count == 0) (law_pure f)
-    (law_bind (law_argument env calls ctx (argument_type values count a) (is_used_later (count - 1) b 0) (value_at values (count - 1)))
+    (law_bind (law_argument env calls ctx values count a (is_used_later (count - 1) b 0))
     (λ x. law_arguments env calls ctx values (count - 1) b (Applies f x)))
 law_arguments env calls ctx values count (Var i) f = law_pure f
 law_arguments env calls ctx values count (Sorted s) f = law_pure f
@@ -118,7 +135,7 @@ pub law_apply : (env : List Slot) (calls : ℕ) (ctx : List Hyp) (ty t : Tree) �
 law_apply env calls ctx ty t = search (fuel_laws, fuel_of_inference, law_first_match, law_arguments) depth 12
 
 law_apply_to_all : (env : List Slot) (calls : ℕ) (ctx : List Hyp) (ty t : Tree) → KeepsLawOfFuel (apply_to_all env calls ctx ty t)
-law_apply_to_all env calls ctx ty t = search (fuel_laws, fuel_of_inference, law_matched, law_arguments) depth 12
+law_apply_to_all env calls ctx ty t = search (fuel_laws, fuel_of_inference, law_match_at_end, law_arguments) depth 12
 
 pub law_construct : (env : List Slot) (calls count index code : ℕ) (ctx : List Hyp) (ty : Tree) →
     KeepsLawOfFuel (construct env calls count index code ctx ty)

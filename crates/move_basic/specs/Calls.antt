@@ -17,7 +17,7 @@ use Rattle.move_basic.specs.declared.equality.Equation.{Equation}
 use Rattle.move_basic.specs.declared.opening.Opening.{Opening}
 use Rattle.move_basic.specs.Intro.{opened, intro, intros_named, intros_all, intros, entered, hole}
 use Rattle.move_basic.specs.Terms.{exact, tried, assumed, assumption}
-use Rattle.move_basic.specs.Apply.{first_match, argument, with_arguments, apply, apply_to_all}
+use Rattle.move_basic.specs.Apply.{matched, last_match, first_match, match_at_end, argument_by, argument, with_arguments, apply, apply_to_all}
 use Rattle.move_basic.specs.Constructors.{construct}
 use Rattle.move_basic.specs.Equality.{by_sides, reflexivity}
 use Rattle.move_basic.specs.Moves.{run_basic, run_move}
@@ -50,6 +50,15 @@ module _ (env : List Slot) (ctx : List Hyp) (ty : Tree) where
   abbrev pub first_match_with : ℕ → Tree → FuelState → Ran Values
   first_match_with count t f = first_match env (calls_left f) ctx ty count t (left f)
 
+  abbrev pub matched_with : ℕ → Tree → FuelState → Ran (Option Values)
+  matched_with count t f = matched env (calls_left f) ctx ty count t (left f)
+
+  abbrev pub last_match_with : ℕ → Tree → FuelState → Ran Values
+  last_match_with count t f = last_match env (calls_left f) ctx ty count t (left f)
+
+  abbrev pub match_at_end_with : ℕ → Tree → FuelState → Ran Values
+  match_at_end_with count t f = match_at_end env (calls_left f) ctx ty count t (left f)
+
   abbrev pub apply_with : Tree → FuelState → Ran (Partial Goal)
   apply_with t f = apply env (calls_left f) ctx ty t (left f)
 
@@ -77,9 +86,12 @@ entered_all env ctx h under = entered env ctx None h (λ inner. intros_all env i
 abbrev pub by_sides_with : List Slot → List Hyp → Equation → FuelState → Ran (Partial Goal)
 by_sides_with env ctx e f = by_sides env (calls_left f) ctx e (left f)
 
--- of an argument's type
-abbrev pub argument_with : List Slot → List Hyp → Tree → Bool → Option Tree → FuelState → Ran (Partial Goal)
-argument_with env ctx a used v f = argument env (calls_left f) ctx a used v (left f)
+-- an argument of this type, and one for a product's variable
+abbrev pub argument_by_with : List Slot → List Hyp → Tree → Bool → Option Tree → FuelState → Ran (Partial Goal)
+argument_by_with env ctx a used v f = argument_by env (calls_left f) ctx a used v (left f)
+
+abbrev pub argument_with : List Slot → List Hyp → Values → ℕ → Tree → Bool → FuelState → Ran (Partial Goal)
+argument_with env ctx values count a used f = argument env (calls_left f) ctx values count a used (left f)
 
 abbrev pub arguments_with : List Slot → List Hyp → Values → ℕ → Tree → Partial Goal → FuelState → Ran (Partial Goal)
 arguments_with env ctx values count ty function f = with_arguments env (calls_left f) ctx values count ty function (left f)

@@ -1,10 +1,12 @@
 -- What stands in scope: goals, and sketches for them.
-use Rattle.std.specs.Prelude.{◌≡◌, ◌<◌, suc, List, [], ◌∷◌, length, Option, Some}
+use Rattle.std.specs.Prelude.{◌≡◌, ◌<◌, ◌≤◌, ℕ, suc, List, [], ◌∷◌, length, Option, Some, None}
 use Rattle.cic_rules.specs.declared.context.Hyp.{Hyp}
 use Rattle.cic_rules.specs.declared.env.Slot.{Slot}
 use Rattle.cic_rules.specs.Contexts.{plain_hyp, defined_hyp}
 use Rattle.cic_rules.specs.Judges.{MayJudge, IsTermIn}
 use Rattle.cic_rules.specs.Scopes.{IsScoped, IsScopedHyp}
+use Rattle.matching.specs.Patterns.{Values}
+use Rattle.matching.specs.Scopes.{AreValues}
 use Rattle.proof_state.specs.declared.goals.Goal.{Goal}
 use Rattle.proof_state.specs.declared.state.Filling.{Filling}
 use Rattle.proof_state.specs.declared.state.Filling.TheVariants.{Give, Admit}
@@ -38,6 +40,11 @@ IsSketchIn env ctx (Hole g) = (unnamed g.ctx ≡ unnamed ctx) × IsGoalIn env g
 IsSketchIn env ctx (Abstracts n a s) = IsTermIn env ctx a × IsSketchIn env (plain_hyp n a ∷ ctx) s
 IsSketchIn env ctx (Defines n a t s) = IsTermIn env ctx a × IsTermIn env ctx t × IsSketchIn env (defined_hyp n a t ∷ ctx) s
 IsSketchIn env ctx (Applies f x) = IsSketchIn env ctx f × IsSketchIn env ctx x
+
+-- what a match found for so few variables, if it found anything
+abbrev pub AreFoundFor : ℕ → ℕ → Option Values → Type 0
+AreFoundFor vars globals None = Unit {0}
+AreFoundFor vars globals (Some values) = AreValues vars globals values × (length values ≤ 1000)
 
 abbrev pub IsFillingIn : List Slot → List Hyp → Filling → Type 0
 IsFillingIn env ctx (Give s) = IsSketchIn env ctx s
