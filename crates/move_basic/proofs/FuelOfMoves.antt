@@ -1,0 +1,54 @@
+-- The law of fuel for each move, and for a step of a proof.
+use Rattle.std.specs.Prelude.{◌≡◌, ℕ, ◌+◌, nat_le, length, Bool, true, false, Ok, Err, if◌then◌else◌}
+use Rattle.base_core.specs.declared.refusals.Stop.TheVariants.{Out}
+use Rattle.base_core.specs.declared.refusals.Limit.TheVariants.{SizeLimit, StepLimit}
+use Rattle.coq_syntax.specs.MoveTrees.{Move, Intro, Intros, Exact, Apply, Assumption, Split, Left, Right, Reflexivity, Simpl, Unfold, Destruct, Induction, Rewrite}
+use Rattle.coq_syntax.specs.MoveTrees as move
+use Rattle.cic_rules.specs.Laws.{KeepsLawOfFuel}
+use Rattle.cic_rules.specs.Runs.{Run}
+use Rattle.cic_rules.proofs.FuelLaws.{law_give, law_pure, law_bind, law_some, law_refuse}
+use Rattle.elaborator.proofs.FuelOfElab.{fuel_of_elaboration}
+use Rattle.proof_state.specs.declared.goals.Goal.{Goal}
+use Rattle.proof_state.specs.declared.goals.TheConstants.{GOAL_LIMIT}
+use Rattle.proof_state.specs.declared.state.Filling.{Filling}
+use Rattle.proof_state.specs.declared.state.Filling.TheVariants.{Give, Admit}
+use Rattle.proof_state.specs.declared.state.Refined.{Refined}
+use Rattle.proof_state.specs.Partial.{Partial, holes}
+use Rattle.proof_state.specs.Proof.{Proof}
+use Rattle.proof_state.specs.Steps.{goal_at, refined, refined_by}
+use Rattle.move_basic.specs.Moves.{solved}
+use Rattle.move_basic.specs.Laws.{FuelOfMoves, FuelOfSteps}
+use Rattle.move_basic.proofs.FuelOfRows.{law_intro, law_intros, law_exact, law_assumption, law_apply, law_construct, law_reflexivity}
+
+law_solved : (s : Run (Partial Goal)) → KeepsLawOfFuel s → KeepsLawOfFuel (solved s)
+law_solved s law = law_bind law (λ x. law_pure (Give x))
+
+pub fuel_of_moves : FuelOfMoves
+fuel_of_moves env calls g (Intro p w) = law_solved _ (law_intro env calls w g.ctx g.ty)
+fuel_of_moves env calls g (Intros p ws) = law_solved _ (law_intros env calls ws g.ctx g.ty)
+fuel_of_moves env calls g (Exact p s) = law_bind (fuel_of_elaboration env calls g.ctx s) (λ t. law_solved _ (law_exact env calls g.ctx g.ty t))
+fuel_of_moves env calls g (Apply p s) = law_bind (fuel_of_elaboration env calls g.ctx s) (λ t. law_solved _ (law_apply env calls g.ctx g.ty t))
+fuel_of_moves env calls g (Assumption p) = law_solved _ (law_assumption env calls g.ctx g.ty)
+fuel_of_moves env calls g (Split p) = law_solved _ (law_construct env calls 1 0 _ g.ctx g.ty)
+fuel_of_moves env calls g (Left p) = law_solved _ (law_construct env calls 2 0 _ g.ctx g.ty)
+fuel_of_moves env calls g (Right p) = law_solved _ (law_construct env calls 2 1 _ g.ctx g.ty)
+fuel_of_moves env calls g (Reflexivity p) = law_solved _ (law_reflexivity env calls g.ctx g.ty)
+fuel_of_moves env calls g (move.Admit p) = law_pure Admit
+fuel_of_moves env calls g (Simpl p) = law_refuse _
+fuel_of_moves env calls g (Unfold p w) = law_refuse _
+fuel_of_moves env calls g (Destruct p w pattern) = law_refuse _
+fuel_of_moves env calls g (Induction p w pattern) = law_refuse _
+fuel_of_moves env calls g (Rewrite p d s) = law_refuse _
+
+within_by : (b : Bool) (r : Refined) → (if b then Ok r else Err (Out SizeLimit)) ≡ Err (Out StepLimit) → ⊥
+within_by true r e = cc
+within_by false r e = cc
+
+refined_is : (p : Proof) (n : ℕ) (by : Filling) → refined_by p n by ≡ Err (Out StepLimit) → ⊥
+refined_is p n (Give s) e = within_by (nat_le (length p.goals + length (holes s)) GOAL_LIMIT) (refined n s p) e
+refined_is p n Admit e = cc
+
+pub fuel_of_steps : FuelOfSteps
+fuel_of_steps env calls p n m =
+    law_bind (law_some _ (goal_at p.goals n))
+    (λ g. law_bind (fuel_of_moves env calls g m) (λ by. law_give (refined_by p n by) (refined_is p n by)))

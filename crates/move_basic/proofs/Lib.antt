@@ -1,0 +1,11 @@
+pub mod FuelOfRows
+pub mod FuelOfMoves
+pub mod Hypotheses
+pub mod Lists
+pub mod Assumed
+pub mod LabelLaws
+pub mod NameLaws
+pub mod ShownNames
+pub mod Openings
+pub mod Equations
+pub mod Samples

@@ -1,0 +1,11 @@
+pub mod Names
+pub mod Naming
+pub mod Intro
+pub mod Terms
+pub mod Apply
+pub mod Constructors
+pub mod Equality
+pub mod Moves
+pub mod Scopes
+pub mod Calls
+pub mod Laws

@@ -1,0 +1,14 @@
+//! The basic proof moves: `intro`, `intros`, `exact`, `apply`, `assumption`, `split`, `left`, `right`,
+//! `reflexivity` and `admit`.
+#![tactic(auto)]
+
+mod equality;
+mod introduction;
+mod laws;
+mod names;
+mod naming;
+mod opening;
+mod refusals;
+mod whole_terms;
+
+pub use laws::law_of_fuel;
