@@ -159,7 +159,8 @@ fn named_behind<J: Judge>(
     requires opening { IsOpeningIn env.now ctx.now opening }
     requires names { names.now ≡ shown_names ctx.now }
     requires place { at ≤ length words.now }
-    ensures answer { Meets result (left fuel.new) (named_behind env.now ctx.now word.now opening (drop at words.now) fuel.old) }
+    ensures answer { let run = named_behind env.now ctx.now word.now opening (drop at words.now) in
+        Meets result (left fuel.new) (run fuel.old) }
     ensures sketch { IfOk result (IsSketchIn env.now ctx.now) }
     ensures kept { IsSpentOf fuel.old fuel.new }
 {
