@@ -1,3 +1,4 @@
 pub mod Keys
 pub mod Indexing
+pub mod Changing
 pub mod Turning

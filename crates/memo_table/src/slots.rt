@@ -88,7 +88,7 @@ impl<M: Drop> Slots<M> {
     pub fn put(&mut self, number: u64, key: Key, made: M) -> Result<(), NoMem>
         requires new_number { lookup (nat_eq number) self.old ≡ None }
         requires new_key { number_of key self.old ≡ None }
-        ensures entered { OnOk result (self.new ≡ entered 40000 (number, record { key = key; made = made }) self.old) }
+        ensures entered { OnOk result (self.new ≡ entered TABLE_LIMIT (number, record { key = key; made = made }) self.old) }
         ensures unchanged { OnErr result (self.new ≡ self.old) }
     {
         numbers_are_apart(&self.cache);
