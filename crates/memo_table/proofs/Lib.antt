@@ -1,4 +1,5 @@
 pub mod Keys
 pub mod Indexing
 pub mod Changing
+pub mod Counting
 pub mod Turning

@@ -1,5 +1,5 @@
 -- Entries that are turned over, each once.
-use Rattle.std.proofs.Common.{◌≡◌, ℕ, ◌+◌, ◌-◌, ◌<◌, Bool, true, false, cond, List, [], ◌∷◌, ◌++◌, length, take, slice_get, nat_eq, Some, None, Contains, refl, sym, ap, ◌∙◌, subst, arith, append-nil}
+use Rattle.std.proofs.Common.{◌≡◌, ℕ, ◌+◌, ◌-◌, ◌<◌, Bool, true, false, cond, List, [], ◌∷◌, ◌++◌, length, take, slice_get, option_map, nat_eq, Some, None, Contains, refl, sym, ap, ◌∙◌, subst, arith, append-nil}
 use Rattle.std.proofs.lemmas.Bool.{eqb-true, eq-eqb}
 use Rattle.std.specs.List.{IsDistinct, list_any}
 use Rattle.std.specs.Map.{lookup_entry, remove_entry, keys_of}
@@ -55,6 +55,27 @@ module _ {X : Type 0} where
 
   pub promoted_last : (es : List (ℕ × X)) (e : ℕ × X) → IsDistinct nat_eq (keys_of (es ++ e ∷ [])) → promoted (nat_eq e.0) (es ++ e ∷ []) ≡ e ∷ es
   promoted_last es e d = let on = found_last es e d in rw (on.0, on.1) refl
+
+module _ {M : Type 0} (hold : List ℕ) (now next : List (ℕ × Entry M)) (n : ℕ) (es : List (ℕ × Entry M)) (e : ℕ × Entry M) (is : now ≡ es ++ e ∷ []) where
+  some_same : (k : ℕ) → Some n ≡ Some k → n ≡ k
+  some_same k h = cc
+
+  number_is : Some n ≡ option_map (λ x. x.0) (last_entry now) → n ≡ e.0
+  number_is h = some_same e.0 (h ∙ ap (λ l. option_map (λ x. x.0) (last_entry l)) is ∙ ap (option_map (λ x. x.0)) (get_last es e))
+
+  -- the last entry's number is in the list
+  pub turn_kept : IsDistinct nat_eq (keys_of now) → Some n ≡ option_map (λ x. x.0) (last_entry now) → next ≡ promoted (nat_eq n) now
+      → list_any (nat_eq n) hold ≡ true → next ≡ cond (list_any (nat_eq e.0) hold) (e ∷ es) es
+  turn_kept d h goes k = let same = number_is h in
+      let held : list_any (nat_eq e.0) hold ≡ true = subst (λ m. list_any (nat_eq m) hold ≡ true) same k in
+      goes ∙ ap (λ m. promoted (nat_eq m) now) same ∙ ap (promoted (nat_eq e.0)) is ∙ promoted_last es e (subst (λ l. IsDistinct nat_eq (keys_of l)) is d) ∙ sym (ap (λ b. cond b (e ∷ es) es) held)
+
+  -- it is not
+  pub turn_left : Some n ≡ option_map (λ x. x.0) (last_entry now) → next ≡ take (length now - 1) now
+      → list_any (nat_eq n) hold ≡ false → next ≡ cond (list_any (nat_eq e.0) hold) (e ∷ es) es
+  turn_left h goes k =
+      let held : list_any (nat_eq e.0) hold ≡ false = subst (λ m. list_any (nat_eq m) hold ≡ false) (number_is h) k in
+      goes ∙ ap (λ l. take (length l - 1) l) is ∙ take_front es e ∙ sym (ap (λ b. cond b (e ∷ es) es) held)
 
 module _ {M : Type 0} (hold : List ℕ) where
   -- so many entries of the old list were turned over

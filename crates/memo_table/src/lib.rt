@@ -9,4 +9,4 @@ mod table;
 
 pub use key::Key;
 pub use slots::{Entry, TABLE_LIMIT};
-pub use table::Kept;
+pub use table::{Kept, MemoTable};

@@ -1,5 +1,5 @@
 //! Entries by their numbers and by their keys, the most recently used first.
-ghost use Rattle.std.specs.Prelude.{◌≡◌, ◌-◌, [], None, nat_eq, length, take, option_map, option_copied, IfOk, OnOk, OnErr};
+ghost use Rattle.std.specs.Prelude.{◌≡◌, ◌-◌, ◌≤◌, [], None, nat_eq, length, take, option_map, option_copied, IfOk, OnOk, OnErr};
 ghost use Rattle.std.specs.Map.{lookup, keys_of};
 ghost use Rattle.std.specs.List.{IsDistinct};
 ghost use Rattle.lru.specs.LruCache.{promoted, last_entry};
@@ -54,6 +54,15 @@ impl<M: Drop> Slots<M> {
             cache: LruCache::sparse(alloc, limit)?,
             numbers: HashMap::new(alloc),
         })
+    }
+
+    /// How many entries there are.
+    pub fn len(&self) -> usize
+        ensures len { result ≡ length self.now }
+        ensures few { result ≤ TABLE_LIMIT }
+        ensures apart { IsDistinct nat_eq (keys_of self.now) }
+    {
+        self.cache.len()
     }
 
     /// The number of the key's entry.
@@ -112,7 +121,7 @@ impl<M: Drop> Slots<M> {
     pub fn retain(&mut self, hold: &HashSet<u64>)
         ensures { self.new ≡ trimmed hold.now.keys self.old }
     {
-        for _turn in 0..self.cache.len() {
+        for _turn in 0..self.len() {
             self.turn(hold);
         }
     }
