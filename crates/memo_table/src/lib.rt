@@ -9,4 +9,5 @@ mod table;
 
 pub use key::Key;
 pub use slots::{Entry, TABLE_LIMIT};
+pub use laws::{law_of_calls, law_of_entries, law_of_numbers};
 pub use table::{Kept, MemoTable};
