@@ -80,9 +80,9 @@ impl<M: Drop> Slots<M> {
         ensures number { result ≡ number_of key.now self.old }
         ensures touched { self.new ≡ touched key.now self.old }
     {
-        let number = self.number(key)?;
-        self.promote(number);
-        Some(number)
+        let found = self.number(key)?;
+        self.promote(found);
+        Some(found)
     }
 
     /// What the entry of a number holds.
