@@ -34,13 +34,16 @@ module _ {M : Type 0} where
   ]) refl
 
 module _ {S : Type 0} (given : ℕ) (rows : List (ℕ × Entry (Kept S))) (counted : IsCounted given rows) where
-  pub counted_touched : (key : Key) → IsCounted given (touched key rows)
-  counted_touched key = record { some = λ e c. counted.some e (Contains-touched key rows e c); most = λ e c. counted.most e (Contains-touched key rows e c) }
+  pub counted_touched : (key : Key) (next : List (ℕ × Entry (Kept S))) → next ≡ touched key rows → IsCounted given next
+  counted_touched key next is = record {
+    some = λ e c. counted.some e (Contains-touched key rows e (subst (λ l. Contains l e) is c));
+    most = λ e c. counted.most e (Contains-touched key rows e (subst (λ l. Contains l e) is c))
+  }
 
-  pub counted_trimmed : (hold : List ℕ) → IsCounted given (trimmed hold rows)
-  counted_trimmed hold = record {
-    some = λ e c. counted.some e (Contains-filtered (λ x. list_any (nat_eq x.0) hold) rows e c);
-    most = λ e c. counted.most e (Contains-filtered (λ x. list_any (nat_eq x.0) hold) rows e c)
+  pub counted_trimmed : (hold : List ℕ) (next : List (ℕ × Entry (Kept S))) → next ≡ trimmed hold rows → IsCounted given next
+  counted_trimmed hold next is = record {
+    some = λ e c. counted.some e (Contains-filtered (λ x. list_any (nat_eq x.0) hold) rows e (subst (λ l. Contains l e) is c));
+    most = λ e c. counted.most e (Contains-filtered (λ x. list_any (nat_eq x.0) hold) rows e (subst (λ l. Contains l e) is c))
   }
 
   pub counted_entered : (n : ℕ) → n ≡ given + 1 → (limit : ℕ) (x : Entry (Kept S)) (next : List (ℕ × Entry (Kept S))) → next ≡ entered limit (n, x) rows → IsCounted n next

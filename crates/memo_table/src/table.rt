@@ -81,6 +81,7 @@ impl<S: Drop> MemoTable<S> {
     }
 
     /// The number of the key's entry, which becomes the most recently used.
+    #[tactic(auto, using(crate::proofs::Counting::counted_touched))]
     pub fn look(&mut self, key: &Key) -> Option<u64>
         ensures number { result ≡ number_of key.now self.old.rows }
         ensures touched { self.new ≡ with_rows self.old (touched key.now self.old.rows) }
@@ -112,6 +113,7 @@ impl<S: Drop> MemoTable<S> {
     }
 
     /// Keeps the entries whose number is in the list, in their order.
+    #[tactic(auto, using(crate::proofs::Counting::counted_trimmed))]
     pub fn trim(&mut self, alloc: Global, hold: &[u64]) -> Result<(), NoMem>
         ensures trimmed { OnOk result (self.new ≡ with_rows self.old (trimmed hold.now self.old.rows)) }
         ensures unchanged { OnErr result (self.new ≡ self.old) }
