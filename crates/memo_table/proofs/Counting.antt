@@ -1,6 +1,5 @@
 -- The numbers of entries, as entries come and go.
 use Rattle.std.proofs.Common.{◌≡◌, ℕ, ◌+◌, ◌-◌, ◌<◌, ◌≤◌, Bool, true, false, cond, ◌||◌, List, [], ◌∷◌, take, drop, filter, option_map, nat_eq, Some, None, Option, Contains, refl, sym, ap, ◌∙◌, subst, inl, inr, arith}
-use Rattle.std.specs.Cmp.{nat_eq_equiv}
 use Rattle.std.specs.Option.{option_map_or}
 use Rattle.std.specs.List.{list_any}
 use Rattle.std.specs.Map.{lookup}
@@ -63,17 +62,3 @@ module _ {S : Type 0} (given : ℕ) (rows : List (ℕ × Entry (Kept S))) (count
 
   pub none_at_start : (n : ℕ) → n ≡ 0 → made_of n rows ≡ None
   none_at_start n is = let none : lookup (nat_eq n) rows ≡ None = lookup_fresh n rows (λ e c s. let was = counted.some e c in omega arith) in rw none refl
-
--- a number that is put into a set is asked for there, and no longer in the rest
-pub asked_goes : (n x : ℕ) (all rest : List ℕ) (before after : List ℕ)
-    → list_any (nat_eq n) all ≡ list_any (nat_eq n) before || list_any (nat_eq n) (x ∷ rest)
-    → list_any (nat_eq n) after ≡ cond (nat_eq x n) true (list_any (nat_eq n) before)
-    → list_any (nat_eq n) all ≡ list_any (nat_eq n) after || list_any (nat_eq n) rest
-asked_goes n x all rest before after h put = h ∙ by (nat_eq x n) (list_any (nat_eq n) before) (list_any (nat_eq n) rest) (nat_eq_equiv.symm n x)
-    ∙ ap (λ b. b || list_any (nat_eq n) rest) (sym put)
-  where
-  by : (a b c : Bool) → nat_eq n x ≡ a → b || (nat_eq n x || c) ≡ cond a true b || c
-  by true true c e = refl
-  by true false c e = rw e refl
-  by false true c e = refl
-  by false false c e = rw e refl

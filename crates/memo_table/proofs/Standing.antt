@@ -1,10 +1,10 @@
 -- What a table's numbers stand for, from call to call.
 use Rattle.std.proofs.Common.{◌≡◌, ℕ, ◌+◌, ◌-◌, ◌<◌, ◌≤◌, Bool, true, false, cond, List, [], ◌∷◌, ◌++◌, take, fold, option_map, nat_eq, Some, None, Option, IsSome, Contains, refl, sym, ap, ◌∙◌, subst, inl, inr, arith}
 use Rattle.std.proofs.lemmas.Bool.{eqb-true, eq-eqb}
-use Rattle.std.specs.List.{IsDistinct, list_any}
-use Rattle.std.specs.Map.{lookup, keys_of}
-use Rattle.lru.proofs.Splits.{Contains-head, Contains-tail, Contains-cons, Contains-nil}
-use Rattle.lru.proofs.CallerLemmas.{Contains-take, Contains-lookup}
+use Rattle.std.specs.List.{list_any}
+use Rattle.std.specs.Map.{lookup, lookup_entry}
+use Rattle.lru.proofs.Splits.{Contains-head, Contains-tail, Contains-cons, cons_head, cons_tail, nil_ne_cut}
+use Rattle.lru.proofs.CallerLemmas.{Contains-take, Contains-lookup, Contains-lookup_entry}
 use Rattle.prover_iface.specs.Sentences.{Sentence}
 use Rattle.prover_iface.specs.Meanings.{Meanings, state_behind}
 use Rattle.memo_table.specs.declared.key.Key.{Key}
@@ -16,7 +16,7 @@ use Rattle.memo_table.specs.Table.{Table, table, with_rows, with_kept}
 use Rattle.memo_table.specs.Fits.{sentence_of, behind_key, extended, IsMade, IsRow, Fits}
 use Rattle.memo_table.specs.Laws.{TouchedFits, TrimmedFits, KeptFits, NumberStands, NumberIsHeld, StateStands, EntryStands}
 use Rattle.memo_table.proofs.Keys.{key_same, apart}
-use Rattle.memo_table.proofs.Indexing.{lookup_apart, one_of_number}
+use Rattle.memo_table.proofs.Indexing.{lookup_apart}
 use Rattle.memo_table.proofs.Counting.{Contains-touched, Contains-filtered}
 
 some_same : {X : Type 0} (x y : X) → Some x ≡ Some y → x ≡ y
@@ -31,6 +31,14 @@ same prefix n sentences = rw (eq-eqb n n refl) refl
 fold_push : {A B : Type 0} (f : A → B → A) (a : A) (xs : List B) (x : B) → fold f a (xs ++ x ∷ []) ≡ f (fold f a xs) x
 fold_push f a [] x = refl
 fold_push f a (y ∷ xs) x = fold_push f (f a y) xs x
+
+last_same : {X : Type 0} (xs ys : List X) (x y : X) → xs ++ x ∷ [] ≡ ys ++ y ∷ [] → (xs ≡ ys) × (x ≡ y)
+last_same [] [] x y h = (refl, cons_head x y [] [] h)
+last_same [] (b ∷ ys) x y h = absurd (nil_ne_cut ys y [] (cons_tail x b [] (ys ++ y ∷ []) h))
+last_same (a ∷ xs) [] x y h = absurd (nil_ne_cut xs x [] (sym (cons_tail a y (xs ++ x ∷ []) [] h)))
+last_same (a ∷ xs) (b ∷ ys) x y h =
+    let on = last_same xs ys x y (cons_tail a b (xs ++ x ∷ []) (ys ++ y ∷ []) h) in
+    (ap (λ c. c ∷ xs) (cons_head a b (xs ++ x ∷ []) (ys ++ y ∷ []) h) ∙ ap (λ l. b ∷ l) on.0, on.1)
 
 -- an entry that a key finds
 record IsFound {M : Type 0} (key : Key) (es : List (ℕ × Entry M)) (n : ℕ) : Type 0 where
@@ -110,20 +118,35 @@ module _ {S M : Type 0} (meaning : S → M) (means : Meanings M) where
       (subst (λ m. 0 < m) on.number r.some, subst (λ m. m ≤ t.given) on.number r.known,
        ap prefix (sym on.number) ∙ r.links ∙ ap (behind_key prefix) (sym on.keyed))
 
-  pub number_is_held : NumberIsHeld meaning means
-  number_is_held t key n h = by (lookup (nat_eq n) t.rows) refl
-    where
-    by : (o : Option (Entry (Kept S))) → lookup (nat_eq n) t.rows ≡ o → IsSome (option_map (λ e. e.made) o)
-    by None l = let on = found key t.rows n h in absurd (lookup_apart n t.rows l on.entry on.there (sym on.number))
-    by (Some x) l = refl
-
   pub state_stands : StateStands meaning means
   state_stands prefix t n made f h = let on = holds t.rows n made h in let r = f.rows (n, on.entry) on.there in
       ap (λ k. meaning k.state) (sym on.made_is) ∙ r.value.state_is
       ∙ sym (fold_push means.after means.first (prefix on.entry.key.from) (sentence_of on.entry.key)) ∙ ap (state_behind means) (sym r.links)
 
   pub entry_stands : EntryStands meaning means
-  entry_stands prefix t key n made f d h m = let on = found key t.rows n h in let has = holds t.rows n made m in let r = f.rows on.entry on.there in
-      let is : on.entry ≡ (n, has.entry) = one_of_number t.rows d on.entry (n, has.entry) on.there has.there on.number in
-      subst (IsMade meaning means (state_behind means (prefix key.from)) (sentence_of key)) (ap (λ e. e.1.made) is ∙ has.made_is)
-        (subst (λ k. IsMade meaning means (state_behind means (prefix k.from)) (sentence_of k) on.entry.1.made) (sym on.keyed) r.value)
+  entry_stands prefix t key n made f is m = let on = holds t.rows n made m in let r = f.rows (n, on.entry) on.there in
+      let parts = last_same (prefix on.entry.key.from) (prefix key.from) (sentence_of on.entry.key) (sentence_of key) (sym r.links ∙ is) in
+      subst (λ l. IsMade meaning means (state_behind means l) (sentence_of key) made) parts.0
+        (subst (λ s. IsMade meaning means (state_behind means (prefix on.entry.key.from)) s made) parts.1
+          (subst (IsMade meaning means (state_behind means (prefix on.entry.key.from)) (sentence_of on.entry.key)) on.made_is r.value))
+
+pub number_is_held : {S : Type 0} → NumberIsHeld S
+number_is_held {S} t key n h = (by (lookup (nat_eq n) t.rows) refl, front (lookup_entry (nat_eq n) t.rows) refl)
+  where
+  held : lookup (nat_eq n) t.rows ≡ None → ⊥
+  held l = let on = found key t.rows n h in lookup_apart n t.rows l on.entry on.there (sym on.number)
+
+  by : (o : Option (Entry (Kept S))) → lookup (nat_eq n) t.rows ≡ o → IsSome (option_map (λ e. e.made) o)
+  by None l = absurd (held l)
+  by (Some x) l = refl
+
+  none_too : (es : List (ℕ × Entry (Kept S))) → lookup_entry (nat_eq n) es ≡ None → lookup (nat_eq n) es ≡ None
+  none_too [] l = refl
+  none_too (e ∷ es) l = (elim (nat_eq n e.0) as (λ b. nat_eq n e.0 ≡ b → lookup (nat_eq n) (e ∷ es) ≡ None) [
+    | true ↦ λ t. let bad = rw t at l in cc
+    | false ↦ λ t. rw t (none_too es (rw t at l))
+  ]) refl
+
+  front : (o : Option (ℕ × Entry (Kept S))) → lookup_entry (nat_eq n) t.rows ≡ o → IsSome (made_of n (touched key t.rows))
+  front None l = absurd (held (none_too t.rows l))
+  front (Some e) l = let is = (Contains-lookup_entry (nat_eq n) t.rows e l).1 in rw (h, l, is) refl

@@ -1,7 +1,5 @@
 -- Laws of what a table's numbers stand for.
-use Rattle.std.specs.Prelude.{◌≡◌, ℕ, ◌+◌, ◌<◌, ◌≤◌, List, [], Some, IsSome, nat_eq}
-use Rattle.std.specs.List.{IsDistinct}
-use Rattle.std.specs.Map.{keys_of}
+use Rattle.std.specs.Prelude.{◌≡◌, ℕ, ◌+◌, ◌<◌, ◌≤◌, List, [], Some, IsSome}
 use Rattle.prover_iface.specs.Sentences.{Sentence}
 use Rattle.prover_iface.specs.Meanings.{Meanings, state_behind}
 use Rattle.memo_table.specs.declared.key.Key.{Key}
@@ -31,19 +29,19 @@ module _ {S M : Type 0} (meaning : S → M) (means : Meanings M) where
   NumberStands = (prefix : ℕ → List Sentence) (t : Table S) (key : Key) (n : ℕ) → Fits meaning means prefix t → number_of key t.rows ≡ Some n
       → (0 < n) × (n ≤ t.given) × (prefix n ≡ behind_key prefix key)
 
-  -- a number that a key finds has its entry
-  abbrev pub NumberIsHeld : Type 0
-  NumberIsHeld = (t : Table S) (key : Key) (n : ℕ) → number_of key t.rows ≡ Some n → IsSome (made_of n t.rows)
-
   -- the entry of a number holds the state behind the sentences of the number
   abbrev pub StateStands : Type 0
   StateStands = (prefix : ℕ → List Sentence) (t : Table S) (n : ℕ) (made : Kept S) → Fits meaning means prefix t → made_of n t.rows ≡ Some made
       → meaning made.state ≡ state_behind means (prefix n)
 
-  -- the entry that a key finds holds what the prover makes of the sentence behind those of the number that the key names
+  -- and what the prover makes of the last of these sentences behind the others
   abbrev pub EntryStands : Type 0
-  EntryStands = (prefix : ℕ → List Sentence) (t : Table S) (key : Key) (n : ℕ) (made : Kept S) → Fits meaning means prefix t → IsDistinct nat_eq (keys_of t.rows)
-      → number_of key t.rows ≡ Some n → made_of n t.rows ≡ Some made → IsMade meaning means (state_behind means (prefix key.from)) (sentence_of key) made
+  EntryStands = (prefix : ℕ → List Sentence) (t : Table S) (key : Key) (n : ℕ) (made : Kept S) → Fits meaning means prefix t
+      → prefix n ≡ behind_key prefix key → made_of n t.rows ≡ Some made → IsMade meaning means (state_behind means (prefix key.from)) (sentence_of key) made
+
+-- a number that a key finds has an entry, and still has it when it was touched
+abbrev pub NumberIsHeld : Type 0 → Type 0
+NumberIsHeld S = (t : Table S) (key : Key) (n : ℕ) → number_of key t.rows ≡ Some n → IsSome (made_of n t.rows) × IsSome (made_of n (touched key t.rows))
 
 -- what a number stood for that was given
 abbrev pub ExtendedStays : Type 0

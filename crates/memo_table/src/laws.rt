@@ -15,7 +15,7 @@ pub fn law_of_calls<P: Prover>()
 /// What is found is what the prover makes of the sentences that the number stands for.
 pub fn law_of_entries<P: Prover>()
     ensures number { NumberStands P.meaning P.means }
-    ensures held { NumberIsHeld P.meaning P.means }
+    ensures held { NumberIsHeld P.State }
     ensures state { StateStands P.meaning P.means }
     ensures entry { EntryStands P.meaning P.means }
 {}

@@ -5,7 +5,7 @@ pub returns-clause-number : goal.returns-clause-number
 returns-clause-number g c = number_stands g.P.Prover.meaning g.P.Prover.means
 
 pub returns-clause-held : goal.returns-clause-held
-returns-clause-held g c = number_is_held g.P.Prover.meaning g.P.Prover.means
+returns-clause-held g c = number_is_held
 
 pub returns-clause-state : goal.returns-clause-state
 returns-clause-state g c = state_stands g.P.Prover.meaning g.P.Prover.means
