@@ -1,5 +1,5 @@
 -- What each change of the cache leaves of the index.
-use Rattle.std.proofs.Common.{◌≡◌, ℕ, ◌-◌, Bool, true, false, cond, List, [], ◌∷◌, length, take, slice_get, nat_eq, Some, None, Option, Contains, refl, sym, ap, ◌∙◌, subst, inl, inr}
+use Rattle.std.proofs.Common.{◌≡◌, ℕ, ◌-◌, Bool, true, false, cond, List, [], ◌∷◌, length, take, slice_get, nat_eq, Some, None, Option, refl, sym, ap, ◌∙◌, subst}
 use Rattle.std.specs.List.{IsDistinct}
 use Rattle.std.specs.Map.{lookup, lookup_entry, keys_of}
 use Rattle.std.specs.HashMap.{HashMap, get}
@@ -8,7 +8,7 @@ use Rattle.lru.proofs.CallerLemmas.{Contains-take, Contains-promoted}
 use Rattle.memo_table.specs.declared.key.Key.{Key}
 use Rattle.memo_table.specs.declared.slots.Entry.{Entry}
 use Rattle.memo_table.specs.declared.slots.TheConstants.{TABLE_LIMIT}
-use Rattle.memo_table.specs.Entries.{same_key, number_of, entered}
+use Rattle.memo_table.specs.Entries.{entry_of, same_key, number_of, entered}
 use Rattle.memo_table.specs.Index.{IsIndexed}
 use Rattle.memo_table.proofs.Indexing.{Listed, noting_listed, pushed_listed, refused_listed, taken_listed}
 
@@ -30,38 +30,38 @@ module _ {M H : Type 0} (cache next : LruCache ℕ (Entry M)) (old : HashMap Key
   -- an entry of a new number and a new key
   module _ (n : ℕ) (key : Key) (made : M) (new_number : lookup (nat_eq n) cache.entries ≡ None) (new_key : number_of key cache.entries ≡ None)
       (noting : HashMap Key ℕ H) (notes : (q : Key) → get same_key noting q ≡ cond (same_key key q) (Some n) (get same_key old q)) where
-    module _ (put : next ≡ lru_cache (put_entries nat_eq cache n (record { key = key; made = made })) cache.cap) where
-      came : next.entries ≡ (n, record { key = key; made = made }) ∷ take (cache.cap - 1) cache.entries
-      came = ap (λ c. c.entries) put ∙ put_new cache n (record { key = key; made = made }) new_number
+    module _ (put : next ≡ lru_cache (put_entries nat_eq cache n (entry_of key made)) cache.cap) where
+      came : next.entries ≡ (n, entry_of key made) ∷ take (cache.cap - 1) cache.entries
+      came = ap (λ c. c.entries) put ∙ put_new cache n (entry_of key made) new_number
 
-      pub put_entered : next.entries ≡ entered TABLE_LIMIT (n, record { key = key; made = made }) cache.entries
-      put_entered = came ∙ ap (λ c. (n, record { key = key; made = made }) ∷ take (c - 1) cache.entries) indexed.limit
+      pub put_entered : next.entries ≡ entered TABLE_LIMIT (n, entry_of key made) cache.entries
+      put_entered = came ∙ ap (λ c. (n, entry_of key made) ∷ take (c - 1) cache.entries) indexed.limit
 
       pub put_indexed : IsIndexed next noting
       put_indexed = record {
         limit = ap (λ c. c.cap) put ∙ indexed.limit;
-        listed = subst (Listed noting) (sym came) (noting_listed old noting cache.entries indexed.listed n key made notes new_key (cache.cap - 1))
+        listed = subst (Listed noting) (sym came) (noting_listed old noting cache.entries indexed.listed n key made notes new_key (cache.cap - 1));
       }
 
-      pub pushed_indexed : IsDistinct nat_eq (keys_of cache.entries) → (l : ℕ × Entry M) → Some l ≡ displaced nat_eq cache n (record { key = key; made = made })
+      pub pushed_indexed : IsDistinct nat_eq (keys_of cache.entries) → (l : ℕ × Entry M) → Some l ≡ displaced nat_eq cache n (entry_of key made)
           → (now : HashMap Key ℕ H) → ((q : Key) → get same_key now q ≡ cond (same_key l.1.key q) None (get same_key noting q)) → IsIndexed next now
       pushed_indexed d l out now forgets = record {
         limit = ap (λ c. c.cap) put ∙ indexed.limit;
         listed = subst (Listed now) (sym came) (pushed_listed old noting cache.entries indexed.listed n key made notes new_key now l.1.key forgets d (cache.cap - 1) l
-            (pushed_out cache n (record { key = key; made = made }) (Some l) new_number out) refl)
+            (pushed_out cache n (entry_of key made) (Some l) new_number out) refl);
       }
 
     pub refused_indexed : next ≡ cache → (now : HashMap Key ℕ H) (gone : Key) → gone ≡ key
         → ((q : Key) → get same_key now q ≡ cond (same_key gone q) None (get same_key noting q)) → IsIndexed next now
     refused_indexed same now gone is forgets = record {
       limit = ap (λ c. c.cap) same ∙ indexed.limit;
-      listed = subst (Listed now) (sym (ap (λ c. c.entries) same)) (refused_listed old noting cache.entries indexed.listed n key made notes new_key now gone forgets is)
+      listed = subst (Listed now) (sym (ap (λ c. c.entries) same)) (refused_listed old noting cache.entries indexed.listed n key made notes new_key now gone forgets is);
     }
 
   pub promoted_indexed : (test : ℕ → Bool) → next ≡ lru_cache (promoted test cache.entries) cache.cap → IsIndexed next old
   promoted_indexed test goes = record {
     limit = ap (λ c. c.cap) goes ∙ indexed.limit;
-    listed = subst (Listed old) (sym (ap (λ c. c.entries) goes)) (λ e c. indexed.listed e (Contains-promoted test cache.entries e c))
+    listed = subst (Listed old) (sym (ap (λ c. c.entries) goes)) (λ e c. indexed.listed e (Contains-promoted test cache.entries e c));
   }
 
   -- the last one is taken out
@@ -70,11 +70,11 @@ module _ {M H : Type 0} (cache next : LruCache ℕ (Entry M)) (old : HashMap Key
         → (now : HashMap Key ℕ H) → ((q : Key) → get same_key now q ≡ cond (same_key l.1.key q) None (get same_key old q)) → IsIndexed next now
     taken_indexed d l is now forgets = record {
       limit = ap (λ c. c.cap) goes ∙ indexed.limit;
-      listed = subst (Listed now) (sym (ap (λ c. c.entries) goes)) (taken_listed old now cache.entries indexed.listed d (length cache.entries - 1) l (sym is) forgets)
+      listed = subst (Listed now) (sym (ap (λ c. c.entries) goes)) (taken_listed old now cache.entries indexed.listed d (length cache.entries - 1) l (sym is) forgets);
     }
 
     pub empty_indexed : IsIndexed next old
     empty_indexed = record {
       limit = ap (λ c. c.cap) goes ∙ indexed.limit;
-      listed = subst (Listed old) (sym (ap (λ c. c.entries) goes)) (λ e c. indexed.listed e (Contains-take (length cache.entries - 1) cache.entries e c))
+      listed = subst (Listed old) (sym (ap (λ c. c.entries) goes)) (λ e c. indexed.listed e (Contains-take (length cache.entries - 1) cache.entries e c));
     }

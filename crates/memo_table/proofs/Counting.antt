@@ -1,10 +1,10 @@
 -- The numbers of entries, as entries come and go.
-use Rattle.std.proofs.Common.{◌≡◌, ℕ, ◌+◌, ◌-◌, ◌<◌, ◌≤◌, Bool, true, false, cond, ◌||◌, List, [], ◌∷◌, take, drop, filter, option_map, nat_eq, Some, None, Option, Contains, refl, sym, ap, ◌∙◌, subst, inl, inr, arith}
+use Rattle.std.proofs.Common.{◌≡◌, ℕ, ◌+◌, ◌-◌, Bool, true, false, List, [], ◌∷◌, take, filter, nat_eq, Some, None, Option, Contains, refl, ap, subst, inl, inr, arith}
 use Rattle.std.specs.Option.{option_map_or}
 use Rattle.std.specs.List.{list_any}
 use Rattle.std.specs.Map.{lookup}
 use Rattle.lru.specs.LruCache.{promoted}
-use Rattle.lru.proofs.Splits.{Contains-head, Contains-tail, Contains-cons, Contains-nil}
+use Rattle.lru.proofs.Splits.{Contains-head, Contains-tail, Contains-cons}
 use Rattle.lru.proofs.CallerLemmas.{Contains-take, Contains-promoted}
 use Rattle.memo_table.specs.declared.key.Key.{Key}
 use Rattle.memo_table.specs.declared.slots.Entry.{Entry}
@@ -18,9 +18,9 @@ module _ {M : Type 0} where
   pub Contains-touched : (key : Key) (es : List (ℕ × Entry M)) (e : ℕ × Entry M) → Contains (touched key es) e → Contains es e
   Contains-touched key es e = by (number_of key es)
     where
-    by : (o : Option ℕ) → Contains (option_map_or (λ number. promoted (nat_eq number) es) o es) e → Contains es e
-    by None c = c
-    by (Some n) c = Contains-promoted (nat_eq n) es e c
+      by : (o : Option ℕ) → Contains (option_map_or (λ number. promoted (nat_eq number) es) o es) e → Contains es e
+      by None c = c
+      by (Some n) c = Contains-promoted (nat_eq n) es e c
 
   pub Contains-filtered : (p : ℕ × Entry M → Bool) (es : List (ℕ × Entry M)) (e : ℕ × Entry M) → Contains (filter p es) e → Contains es e
   Contains-filtered p [] e c = c
@@ -36,13 +36,13 @@ module _ {S : Type 0} (given : ℕ) (rows : List (ℕ × Entry (Kept S))) (count
   pub counted_touched : (key : Key) (next : List (ℕ × Entry (Kept S))) → next ≡ touched key rows → IsCounted given next
   counted_touched key next is = record {
     some = λ e c. counted.some e (Contains-touched key rows e (subst (λ l. Contains l e) is c));
-    most = λ e c. counted.most e (Contains-touched key rows e (subst (λ l. Contains l e) is c))
+    most = λ e c. counted.most e (Contains-touched key rows e (subst (λ l. Contains l e) is c));
   }
 
   pub counted_trimmed : (hold : List ℕ) (next : List (ℕ × Entry (Kept S))) → next ≡ trimmed hold rows → IsCounted given next
   counted_trimmed hold next is = record {
     some = λ e c. counted.some e (Contains-filtered (λ x. list_any (nat_eq x.0) hold) rows e (subst (λ l. Contains l e) is c));
-    most = λ e c. counted.most e (Contains-filtered (λ x. list_any (nat_eq x.0) hold) rows e (subst (λ l. Contains l e) is c))
+    most = λ e c. counted.most e (Contains-filtered (λ x. list_any (nat_eq x.0) hold) rows e (subst (λ l. Contains l e) is c));
   }
 
   pub counted_entered : (n : ℕ) → n ≡ given + 1 → (limit : ℕ) (x : Entry (Kept S)) (next : List (ℕ × Entry (Kept S))) → next ≡ entered limit (n, x) rows → IsCounted n next
@@ -54,7 +54,7 @@ module _ {S : Type 0} (given : ℕ) (rows : List (ℕ × Entry (Kept S))) (count
     most = λ e c. elim (Contains-cons (n, x) (take (limit - 1) rows) e (subst (λ l. Contains l e) is c)) [
       | inl same ↦ let k : n ≡ e.0 = ap (λ y. y.0) same in omega arith
       | inr d ↦ let was = counted.most e (Contains-take (limit - 1) rows e d) in omega arith
-    ]
+    ];
   }
 
   pub next_fresh : (n : ℕ) → n ≡ given + 1 → lookup (nat_eq n) rows ≡ None

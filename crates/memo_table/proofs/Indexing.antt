@@ -1,5 +1,5 @@
 -- The numbers by key, as entries come and go.
-use Rattle.std.proofs.Common.{◌≡◌, ℕ, zero, suc, ◌-◌, Bool, true, false, cond, List, [], ◌∷◌, take, slice_get, nat_eq, Some, None, Contains, refl, sym, ap, ◌∙◌, subst, inl, inr, map}
+use Rattle.std.proofs.Common.{◌≡◌, ℕ, zero, suc, true, false, cond, List, [], ◌∷◌, take, slice_get, nat_eq, Some, None, Contains, refl, sym, ap, ◌∙◌, subst, inl, inr}
 use Rattle.std.proofs.lemmas.Bool.{eqb-true, eq-eqb}
 use Rattle.std.specs.List.{AllByRecursion, IsDistinct}
 use Rattle.std.specs.Map.{lookup, keys_of}
@@ -8,7 +8,7 @@ use Rattle.lru.proofs.Splits.{Contains-head, Contains-tail, Contains-cons, Conta
 use Rattle.lru.proofs.CallerLemmas.{Contains-take, Contains-lookup}
 use Rattle.memo_table.specs.declared.key.Key.{Key}
 use Rattle.memo_table.specs.declared.slots.Entry.{Entry}
-use Rattle.memo_table.specs.Entries.{same_key, number_of}
+use Rattle.memo_table.specs.Entries.{entry_of, same_key, number_of}
 use Rattle.memo_table.proofs.Keys.{key_same, key_refl, number_none, number_some, none_has, apart}
 
 some_same : {X : Type 0} (x y : X) → Some x ≡ Some y → x ≡ y
@@ -64,10 +64,10 @@ module _ {X : Type 0} where
     | inr p ↦ before_apart es h.1 i l g e p s
   ]
     where
-    got : (xs : List (ℕ × X)) (k : ℕ) (y : ℕ × X) → slice_get xs k ≡ Some y → Contains xs y
-    got [] k y g = cc
-    got (z ∷ xs) zero y g = subst (Contains (z ∷ xs)) (some_same z y g) (Contains-head z xs)
-    got (z ∷ xs) (suc k) y g = Contains-tail z xs y (got xs k y g)
+      got : (xs : List (ℕ × X)) (k : ℕ) (y : ℕ × X) → slice_get xs k ≡ Some y → Contains xs y
+      got [] k y g = cc
+      got (z ∷ xs) zero y g = subst (Contains (z ∷ xs)) (some_same z y g) (Contains-head z xs)
+      got (z ∷ xs) (suc k) y g = Contains-tail z xs y (got xs k y g)
 
   pub slice_get-Contains : (xs : List (ℕ × X)) (k : ℕ) (y : ℕ × X) → slice_get xs k ≡ Some y → Contains xs y
   slice_get-Contains [] k y g = cc
@@ -110,10 +110,10 @@ module _ {M H : Type 0} where
       (notes : (q : Key) → get same_key noting q ≡ cond (same_key key q) (Some n) (get same_key old q))
       (absent : number_of key es ≡ None) where
     entry : Entry M
-    entry = record { key = key; made = made }
+    entry = entry_of key made
 
-    pub noting_listed : (i : ℕ) → Listed noting ((n, record { key = key; made = made }) ∷ take i es)
-    noting_listed i e c = elim (Contains-cons (n, record { key = key; made = made }) (take i es) e c) [
+    pub noting_listed : (i : ℕ) → Listed noting ((n, entry_of key made) ∷ take i es)
+    noting_listed i e c = elim (Contains-cons (n, entry_of key made) (take i es) e c) [
       | inl same ↦ subst (λ x. get same_key noting x.1.key ≡ Some x.0) same (notes key ∙ rw (key_refl key) refl)
       | inr d ↦ let was = Contains-take i es e d in notes e.1.key ∙ rw (none_has key es absent e was) (listed e was)
     ]
@@ -124,20 +124,20 @@ module _ {M H : Type 0} where
 
       -- the last entry was pushed out
       pub pushed_listed : IsDistinct nat_eq (keys_of es) → (i : ℕ) (l : ℕ × Entry M) → slice_get es i ≡ Some l → l.1.key ≡ gone
-          → Listed now ((n, record { key = key; made = made }) ∷ take i es)
+          → Listed now ((n, entry_of key made) ∷ take i es)
       pushed_listed d i l g k e c = still e (other e c) (noting_listed i e c)
         where
-        there : Contains es l
-        there = slice_get-Contains es i l g
+          there : Contains es l
+          there = slice_get-Contains es i l g
 
-        other : (e : ℕ × Entry M) → Contains ((n, record { key = key; made = made }) ∷ take i es) e → same_key gone e.1.key ≡ false
-        other e c = apart _ (λ t. elim (Contains-cons (n, record { key = key; made = made }) (take i es) e c) [
-          | inl same ↦
-              let is : l.1.key ≡ key = k ∙ key_same gone e.1.key t ∙ ap (λ x. x.1.key) (sym same) in
-              let bad : true ≡ false = sym (key_refl key) ∙ ap (same_key key) (sym is) ∙ none_has key es absent l there in cc
-          | inr f ↦ before_apart es d i l g e f
-              (some_same e.0 l.0 (sym (listed e (Contains-take i es e f)) ∙ ap (get same_key old) (sym (key_same gone e.1.key t)) ∙ ap (get same_key old) (sym k) ∙ listed l there))
-        ])
+          other : (e : ℕ × Entry M) → Contains ((n, entry_of key made) ∷ take i es) e → same_key gone e.1.key ≡ false
+          other e c = apart _ (λ t. elim (Contains-cons (n, entry_of key made) (take i es) e c) [
+            | inl same ↦
+                let is : l.1.key ≡ key = k ∙ key_same gone e.1.key t ∙ ap (λ x. x.1.key) (sym same) in
+                let bad : true ≡ false = sym (key_refl key) ∙ ap (same_key key) (sym is) ∙ none_has key es absent l there in cc
+            | inr f ↦ before_apart es d i l g e f
+                (some_same e.0 l.0 (sym (listed e (Contains-take i es e f)) ∙ ap (get same_key old) (sym (key_same gone e.1.key t)) ∙ ap (get same_key old) (sym k) ∙ listed l there))
+          ])
 
       -- the new entry didn't come in
       pub refused_listed : gone ≡ key → Listed now es
@@ -151,5 +151,5 @@ module _ {M H : Type 0} where
   taken_listed old now es listed d i l g forgets e c =
       let was = Contains-take i es e c in
       let s : same_key l.1.key e.1.key ≡ false = apart _ (λ t. before_apart es d i l g e c
-          (some_same e.0 l.0 (sym (listed e was) ∙ ap (get same_key old) (sym (key_same l.1.key e.1.key t)) ∙ listed l (slice_get-Contains es i l g)))) in
+      (some_same e.0 l.0 (sym (listed e was) ∙ ap (get same_key old) (sym (key_same l.1.key e.1.key t)) ∙ listed l (slice_get-Contains es i l g)))) in
       forgets e.1.key ∙ rw s (listed e was)

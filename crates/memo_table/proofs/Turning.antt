@@ -1,5 +1,5 @@
 -- Entries that are turned over, each once.
-use Rattle.std.proofs.Common.{◌≡◌, ℕ, ◌+◌, ◌-◌, ◌<◌, Bool, true, false, cond, List, [], ◌∷◌, ◌++◌, length, take, slice_get, option_map, nat_eq, Some, None, Contains, refl, sym, ap, ◌∙◌, subst, arith, append-nil}
+use Rattle.std.proofs.Common.{◌≡◌, ℕ, ◌+◌, ◌-◌, ◌<◌, Bool, true, false, cond, List, [], ◌∷◌, ◌++◌, length, take, slice_get, option_map, nat_eq, Some, refl, sym, ap, ◌∙◌, subst, arith, append-nil}
 use Rattle.std.proofs.lemmas.Bool.{eqb-true, eq-eqb}
 use Rattle.std.specs.List.{IsDistinct, list_any}
 use Rattle.std.specs.Map.{lookup_entry, remove_entry, keys_of}
@@ -18,31 +18,31 @@ module _ {X : Type 0} where
   pub take_front : (es : List (ℕ × X)) (e : ℕ × X) → take (length (es ++ e ∷ []) - 1) (es ++ e ∷ []) ≡ es
   take_front es e = rw (length_push es) (front es)
     where
-    length_push : (xs : List (ℕ × X)) → length (xs ++ e ∷ []) - 1 ≡ length xs
-    length_push [] = refl
-    length_push (x ∷ xs) = let on = plus xs in omega arith
-      where
-      plus : (ys : List (ℕ × X)) → length (ys ++ e ∷ []) ≡ length ys + 1
-      plus [] = refl
-      plus (y ∷ ys) = let on = plus ys in omega arith
+      length_push : (xs : List (ℕ × X)) → length (xs ++ e ∷ []) - 1 ≡ length xs
+      length_push [] = refl
+      length_push (x ∷ xs) = let on = plus xs in omega arith
+        where
+          plus : (ys : List (ℕ × X)) → length (ys ++ e ∷ []) ≡ length ys + 1
+          plus [] = refl
+          plus (y ∷ ys) = let on = plus ys in omega arith
 
-    front : (xs : List (ℕ × X)) → take (length xs) (xs ++ e ∷ []) ≡ xs
-    front [] = refl
-    front (x ∷ xs) = ap (λ l. x ∷ l) (front xs)
+      front : (xs : List (ℕ × X)) → take (length xs) (xs ++ e ∷ []) ≡ xs
+      front [] = refl
+      front (x ∷ xs) = ap (λ l. x ∷ l) (front xs)
 
   pub get_last : (es : List (ℕ × X)) (e : ℕ × X) → last_entry (es ++ e ∷ []) ≡ Some e
   get_last es e = rw (length_push es) (there es)
     where
-    plus : (ys : List (ℕ × X)) → length (ys ++ e ∷ []) ≡ length ys + 1
-    plus [] = refl
-    plus (y ∷ ys) = let on = plus ys in omega arith
+      plus : (ys : List (ℕ × X)) → length (ys ++ e ∷ []) ≡ length ys + 1
+      plus [] = refl
+      plus (y ∷ ys) = let on = plus ys in omega arith
 
-    length_push : (xs : List (ℕ × X)) → length (xs ++ e ∷ []) - 1 ≡ length xs
-    length_push xs = let on = plus xs in omega arith
+      length_push : (xs : List (ℕ × X)) → length (xs ++ e ∷ []) - 1 ≡ length xs
+      length_push xs = let on = plus xs in omega arith
 
-    there : (xs : List (ℕ × X)) → slice_get (xs ++ e ∷ []) (length xs) ≡ Some e
-    there [] = refl
-    there (x ∷ xs) = there xs
+      there : (xs : List (ℕ × X)) → slice_get (xs ++ e ∷ []) (length xs) ≡ Some e
+      there [] = refl
+      there (x ∷ xs) = there xs
 
   found_last : (es : List (ℕ × X)) (e : ℕ × X) → IsDistinct nat_eq (keys_of (es ++ e ∷ []))
       → (lookup_entry (nat_eq e.0) (es ++ e ∷ []) ≡ Some e) × (remove_entry (nat_eq e.0) (es ++ e ∷ []) ≡ es)
@@ -101,22 +101,22 @@ module _ {M : Type 0} (hold : List ℕ) where
   pub trimming_goes : (old now next : List (ℕ × Entry M)) (turns : ℕ) → IsTrimming old now turns → turns < length old → IsTurn hold now next → IsTrimming old next (turns + 1)
   trimming_goes old now next turns t less turn = by t.front t.back t.parts t.count t.is
     where
-    by : (front back : List (ℕ × Entry M)) → old ≡ front ++ back → length back ≡ turns → now ≡ trimmed hold back ++ front → IsTrimming old next (turns + 1)
-    by [] back parts count is = absurd (let same : length old ≡ turns = ap length parts ∙ count in omega arith)
-    by (a ∷ xs) back parts count is =
-        let cut = cut_last a xs in let us = cut.0 in let x = last_from a xs in
-        let before : now ≡ (trimmed hold back ++ us) ++ x ∷ [] = is ∙ ap (λ l. trimmed hold back ++ l) cut.1 ∙ sym (assoc (trimmed hold back) us (x ∷ [])) in
-        record {
-          front = us;
-          back = x ∷ back;
-          parts = parts ∙ ap (λ l. l ++ back) cut.1 ∙ assoc us (x ∷ []) back;
-          count = omega arith;
-          is = turned x back us next (list_any (nat_eq x.0) hold) refl (turn (trimmed hold back ++ us) x before)
-        }
+      by : (front back : List (ℕ × Entry M)) → old ≡ front ++ back → length back ≡ turns → now ≡ trimmed hold back ++ front → IsTrimming old next (turns + 1)
+      by [] back parts count is = absurd (let same : length old ≡ turns = ap length parts ∙ count in omega arith)
+      by (a ∷ xs) back parts count is =
+          let cut = cut_last a xs in let us = cut.0 in let x = last_from a xs in
+          let before : now ≡ (trimmed hold back ++ us) ++ x ∷ [] = is ∙ ap (λ l. trimmed hold back ++ l) cut.1 ∙ sym (assoc (trimmed hold back) us (x ∷ [])) in
+          record {
+            front = us;
+            back = x ∷ back;
+            parts = parts ∙ ap (λ l. l ++ back) cut.1 ∙ assoc us (x ∷ []) back;
+            count = omega arith;
+            is = turned x back us next (list_any (nat_eq x.0) hold) refl (turn (trimmed hold back ++ us) x before);
+          }
 
   pub trimming_ends : (old now : List (ℕ × Entry M)) → IsTrimming old now (length old) → now ≡ trimmed hold old
   trimming_ends old now t = by t.front t.parts t.is
     where
-    by : (front : List (ℕ × Entry M)) → old ≡ front ++ t.back → now ≡ trimmed hold t.back ++ front → now ≡ trimmed hold old
-    by [] parts is = is ∙ append-nil (trimmed hold t.back) ∙ ap (trimmed hold) (sym parts)
-    by (a ∷ xs) parts is = absurd (let sum = ap length parts ∙ lengths (a ∷ xs) t.back in let count = t.count in omega arith)
+      by : (front : List (ℕ × Entry M)) → old ≡ front ++ t.back → now ≡ trimmed hold t.back ++ front → now ≡ trimmed hold old
+      by [] parts is = is ∙ append-nil (trimmed hold t.back) ∙ ap (trimmed hold) (sym parts)
+      by (a ∷ xs) parts is = absurd (let sum = ap length parts ∙ lengths (a ∷ xs) t.back in let count = t.count in omega arith)

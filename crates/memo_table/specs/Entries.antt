@@ -13,6 +13,9 @@ abbrev pub same_key : Key → Key → Bool
 same_key k e = (k.from == e.from) && (kinds.ghosts.eq k.kind e.kind && bytes_eq k.text e.text)
 
 module _ {M : Type 0} where
+  abbrev pub entry_of : Key → M → Entry M
+  entry_of key made = record { key = key; made = made }
+
   -- the number of the first entry with the key
   abbrev pub number_of : Key → List (ℕ × Entry M) → Option ℕ
   number_of key [] = None

@@ -1,5 +1,5 @@
 -- What the numbers of a table stand for, and what its entries hold of them.
-use Rattle.std.specs.Prelude.{◌≡◌, ℕ, ◌+◌, ◌<◌, ◌≤◌, List, [], ◌∷◌, ◌++◌, cond, nat_eq, Contains}
+use Rattle.std.specs.Prelude.{◌≡◌, ℕ, ◌<◌, ◌≤◌, List, [], ◌∷◌, ◌++◌, cond, nat_eq, Contains}
 use Rattle.prover_iface.specs.Sentences.{Sentence, sentence}
 use Rattle.prover_iface.specs.Meanings.{Meanings, state_behind}
 use Rattle.memo_table.specs.declared.key.Key.{Key}

@@ -4,7 +4,7 @@ use Rattle.memo_table.specs.declared.key.Key.{Key}
 use Rattle.memo_table.specs.declared.slots.Entry.{Entry}
 use Rattle.memo_table.specs.declared.slots.TheConstants.{TABLE_LIMIT}
 use Rattle.memo_table.specs.declared.table.Kept.{Kept}
-use Rattle.memo_table.specs.Entries.{entered}
+use Rattle.memo_table.specs.Entries.{entry_of, entered}
 
 -- the first state, how many numbers were given, and the entries, the most recently used first
 pub record Table (S : Type 0) : Type 0 where
@@ -21,7 +21,7 @@ module _ {S : Type 0} where
 
   -- with an entry of the next number, which goes first
   abbrev pub with_kept : Table S → Key → Kept S → Table S
-  with_kept t key made = table t.root (t.given + 1) (entered TABLE_LIMIT (t.given + 1, record { key = key; made = made }) t.rows)
+  with_kept t key made = table t.root (t.given + 1) (entered TABLE_LIMIT (t.given + 1, entry_of key made) t.rows)
 
   -- each number was given
   pub record IsCounted (given : ℕ) (rows : List (ℕ × Entry (Kept S))) : Type 0 where

@@ -3,7 +3,7 @@ ghost use Rattle.std.specs.Prelude.{◌≡◌, ◌-◌, ◌≤◌, [], None, nat
 ghost use Rattle.std.specs.Map.{lookup, keys_of};
 ghost use Rattle.std.specs.List.{IsDistinct};
 ghost use Rattle.lru.specs.LruCache.{promoted, last_entry};
-ghost use Rattle.memo_table.specs.Entries.{number_of, made_of, touched, entered, trimmed, IsTurn};
+ghost use Rattle.memo_table.specs.Entries.{entry_of, number_of, made_of, touched, entered, trimmed, IsTurn};
 
 use crate::key::Key;
 use base_core::NoMem;
@@ -72,7 +72,11 @@ impl<M: Drop> Slots<M> {
         numbers_are_apart(&self.cache);
         let number = *self.numbers.get(key)?;
         let entry = self.cache.peek(&number)?;
-        if entry.key == *key { Some(number) } else { None }
+        if entry.key == *key {
+            Some(number)
+        } else {
+            None
+        }
     }
 
     /// The number of the key's entry, which becomes the most recently used.
@@ -97,7 +101,7 @@ impl<M: Drop> Slots<M> {
     pub fn put(&mut self, number: u64, key: Key, made: M) -> Result<(), NoMem>
         requires new_number { lookup (nat_eq number) self.old ≡ None }
         requires new_key { number_of key self.old ≡ None }
-        ensures entered { OnOk result (self.new ≡ entered TABLE_LIMIT (number, record { key = key; made = made }) self.old) }
+        ensures entered { OnOk result (self.new ≡ entered TABLE_LIMIT (number, entry_of key made) self.old) }
         ensures unchanged { OnErr result (self.new ≡ self.old) }
     {
         numbers_are_apart(&self.cache);

@@ -1,6 +1,5 @@
-use Rattle.std.proofs.Common.{◌≡◌, rules, sym, ap, ◌∙◌, Some, None}
-use Rattle.std.specs.HashMap.{get}
-use Rattle.memo_table.specs.Entries.{same_key, number_of}
+use Rattle.std.proofs.Common.{rules, ap, ◌∙◌}
+use Rattle.memo_table.specs.Entries.{number_of}
 use Rattle.memo_table.proofs.Indexing.{number_unknown, number_gone, number_held, number_other}
 use Rattle.memo_table.proofs.slots.Slots.number.Goals as goal
 

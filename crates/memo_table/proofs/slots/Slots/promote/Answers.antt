@@ -1,4 +1,3 @@
-use Rattle.std.proofs.Common.{rules}
 use Rattle.memo_table.proofs.Changing.{promoted_indexed}
 use Rattle.memo_table.proofs.slots.Slots.promote.Goals as goal
 

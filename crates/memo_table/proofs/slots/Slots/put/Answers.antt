@@ -1,6 +1,6 @@
 use Rattle.std.proofs.Common.{rules, ap, ◌∙◌}
 use Rattle.memo_table.specs.declared.slots.TheConstants.{TABLE_LIMIT}
-use Rattle.memo_table.specs.Entries.{entered}
+use Rattle.memo_table.specs.Entries.{entry_of, entered}
 use Rattle.memo_table.proofs.Changing.{put_entered, put_indexed, pushed_indexed, refused_indexed}
 use Rattle.memo_table.proofs.slots.Slots.put.Goals as goal
 
@@ -19,8 +19,8 @@ invariant_of-self-in-Err g c = refused_indexed c.self.inside.cache c.push.new.se
 
 pub returns-in-Ok-None-clause-entered : goal.returns-in-Ok-None-clause-entered
 returns-in-Ok-None-clause-entered g c = put_entered c.self.inside.cache c.push.new.self c.self.inside.numbers c.self.invariant c.args.number c.args.key c.args.made
-    (search rules) (search rules) c.insert.new.self (search rules) (search rules) ∙ ap (entered TABLE_LIMIT (c.args.number, record { key = c.args.key; made = c.args.made })) c.self.view_is
+    (search rules) (search rules) c.insert.new.self (search rules) (search rules) ∙ ap (entered TABLE_LIMIT (c.args.number, entry_of c.args.key c.args.made)) c.self.view_is
 
 pub returns-in-Ok-Some-clause-entered : goal.returns-in-Ok-Some-clause-entered
 returns-in-Ok-Some-clause-entered g c = put_entered c.self.inside.cache c.push.new.self c.self.inside.numbers c.self.invariant c.args.number c.args.key c.args.made
-    (search rules) (search rules) c.insert.new.self (search rules) (search rules) ∙ ap (entered TABLE_LIMIT (c.args.number, record { key = c.args.key; made = c.args.made })) c.self.view_is
+    (search rules) (search rules) c.insert.new.self (search rules) (search rules) ∙ ap (entered TABLE_LIMIT (c.args.number, entry_of c.args.key c.args.made)) c.self.view_is

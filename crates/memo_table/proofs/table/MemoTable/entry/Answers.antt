@@ -1,4 +1,4 @@
-use Rattle.std.proofs.Common.{rules, ◌∙◌}
+use Rattle.std.proofs.Common.{◌∙◌}
 use Rattle.memo_table.proofs.Counting.{none_at_start}
 use Rattle.memo_table.proofs.table.MemoTable.entry.Goals as goal
 
