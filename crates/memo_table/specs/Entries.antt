@@ -1,5 +1,5 @@
 -- Entries in order, the most recently used first. Each is a number, and what stands for it.
-use Rattle.std.specs.Prelude.{◌≡◌, ℕ, ◌-◌, ◌==◌, Bool, ◌&&◌, Option, Some, None, List, [], ◌∷◌, ◌++◌, take, filter, nat_eq, option_map, cond, bytes_eq}
+use Rattle.std.specs.Prelude.{◌≡◌, ℕ, ◌-◌, ◌==◌, Bool, ◌&&◌, Option, Some, None, List, [], ◌∷◌, ◌++◌, take, map, filter, nat_eq, option_map, cond, bytes_eq}
 use Rattle.std.specs.Option.{option_map_or}
 use Rattle.std.specs.List.{list_any}
 use Rattle.std.specs.Map.{lookup}
@@ -36,6 +36,13 @@ module _ {M : Type 0} where
   -- the entries whose number is in the list
   abbrev pub trimmed : List ℕ → List (ℕ × Entry M) → List (ℕ × Entry M)
   trimmed hold es = filter (λ e. list_any (nat_eq e.0) hold) es
+
+  -- the entries without what came of them
+  abbrev pub plain : ℕ × Entry M → ℕ × Entry (Unit {0})
+  plain e = (e.0, record { key = e.1.key; made = tt })
+
+  abbrev pub plain_entries : List (ℕ × Entry M) → List (ℕ × Entry (Unit {0}))
+  plain_entries es = map plain es
 
   -- a turn: the last entry goes first where its number is in the list, and else it is dropped
   abbrev pub IsTurn : List ℕ → List (ℕ × Entry M) → List (ℕ × Entry M) → Type 0

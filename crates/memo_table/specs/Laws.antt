@@ -4,7 +4,8 @@ use Rattle.prover_iface.specs.Sentences.{Sentence}
 use Rattle.prover_iface.specs.Meanings.{Meanings, state_behind}
 use Rattle.memo_table.specs.declared.key.Key.{Key}
 use Rattle.memo_table.specs.declared.table.Kept.{Kept}
-use Rattle.memo_table.specs.Entries.{number_of, made_of, touched, trimmed}
+use Rattle.memo_table.specs.declared.slots.Entry.{Entry}
+use Rattle.memo_table.specs.Entries.{entry_of, number_of, made_of, touched, entered, trimmed, plain_entries}
 use Rattle.memo_table.specs.Table.{Table, table, with_rows, with_kept}
 use Rattle.memo_table.specs.Fits.{sentence_of, behind_key, extended, IsMade, Fits}
 
@@ -49,3 +50,18 @@ ExtendedStays = (prefix : ℕ → List Sentence) (n m : ℕ) (sentences : List S
 
 abbrev pub ExtendedStands : Type 0
 ExtendedStands = (prefix : ℕ → List Sentence) (n : ℕ) (sentences : List Sentence) → extended prefix n sentences n ≡ sentences
+
+-- what becomes of the entries, but for what came of them, is told by their numbers and keys alone
+module _ (S : Type 0) where
+  abbrev pub PlainNumber : Type 0
+  PlainNumber = (key : Key) (rows : List (ℕ × Entry (Kept S))) → number_of key (plain_entries rows) ≡ number_of key rows
+
+  abbrev pub PlainTouched : Type 0
+  PlainTouched = (key : Key) (rows : List (ℕ × Entry (Kept S))) → plain_entries (touched key rows) ≡ touched key (plain_entries rows)
+
+  abbrev pub PlainEntered : Type 0
+  PlainEntered = (limit n : ℕ) (key : Key) (made : Kept S) (rows : List (ℕ × Entry (Kept S)))
+      → plain_entries (entered limit (n, entry_of key made) rows) ≡ entered limit (n, entry_of key tt) (plain_entries rows)
+
+  abbrev pub PlainTrimmed : Type 0
+  PlainTrimmed = (hold : List ℕ) (rows : List (ℕ × Entry (Kept S))) → plain_entries (trimmed hold rows) ≡ trimmed hold (plain_entries rows)

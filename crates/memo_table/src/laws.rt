@@ -1,5 +1,6 @@
 //! What the numbers of a table stand for, from call to call.
 ghost use Rattle.memo_table.specs.Laws.{NewFits, TouchedFits, TrimmedFits, KeptFits, NumberStands, NumberIsHeld};
+ghost use Rattle.memo_table.specs.Laws.{PlainNumber, PlainTouched, PlainEntered, PlainTrimmed};
 ghost use Rattle.memo_table.specs.Laws.{StateStands, EntryStands, ExtendedStays, ExtendedStands};
 
 use prover_iface::Prover;
@@ -24,4 +25,12 @@ pub fn law_of_entries<P: Prover>()
 pub fn law_of_numbers()
     ensures stays { ExtendedStays }
     ensures stands { ExtendedStands }
+{}
+
+/// What is held, and in which order, is told by numbers and keys, whatever came of the sentences.
+pub fn law_of_plain_entries<P: Prover>()
+    ensures number { PlainNumber P.State }
+    ensures touched { PlainTouched P.State }
+    ensures entered { PlainEntered P.State }
+    ensures trimmed { PlainTrimmed P.State }
 {}
