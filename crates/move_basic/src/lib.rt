@@ -2,6 +2,7 @@
 //! `reflexivity` and `admit`.
 #![tactic(auto)]
 
+mod applying;
 mod equality;
 mod introduction;
 mod laws;
