@@ -7,6 +7,7 @@ pub mod LabelLaws
 pub mod NameLaws
 pub mod ShownNames
 pub mod Arguments
+pub mod Constructed
 pub mod Openings
 pub mod Equations
 pub mod Samples

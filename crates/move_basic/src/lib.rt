@@ -3,6 +3,7 @@
 #![tactic(auto)]
 
 mod applying;
+mod constructing;
 mod equality;
 mod introduction;
 mod laws;
