@@ -13,7 +13,7 @@ use Rattle.cic_rules.specs.Runs.{Run, ◌>>=◌}
 use Rattle.cic_rules.proofs.FuelLaws.{law_pure, law_bind, law_if, law_refuse, fuel_laws}
 use Rattle.cic_rules.proofs.JudgeFuelLaws.{fuel_of_reduction, fuel_of_conversion}
 use Rattle.cic_rules.proofs.InferFuelLaws.{fuel_of_inference, fuel_of_checks}
-use Rattle.matching.specs.Patterns.{Values, unset_values, value_at}
+use Rattle.matching.specs.Patterns.{Values, unset_values}
 use Rattle.matching.proofs.FuelOfMatch.{fuel_of_match}
 use Rattle.proof_state.specs.declared.goals.Goal.{Goal}
 use Rattle.proof_state.specs.Partial.{Partial, Ready, Applies}

@@ -6,6 +6,8 @@ pub mod Assumed
 pub mod LabelLaws
 pub mod NameLaws
 pub mod ShownNames
+pub mod Arguments
+pub mod Constructed
 pub mod Openings
 pub mod Equations
 pub mod Samples

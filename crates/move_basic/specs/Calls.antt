@@ -1,23 +1,23 @@
 -- Rows that calls of their own answer, on some fuel: with its units, and with so many more judgements in one another.
-use Rattle.std.specs.Prelude.{ℕ, List, Bool, Option, None, Some}
+use Rattle.std.specs.Prelude.{ℕ, ◌-◌, List, Bool, Option, None, Some}
 use Rattle.coq_syntax.specs.declared.words.Word.{Word}
 use Rattle.coq_syntax.specs.MoveTrees.{Move}
 use Rattle.core_term.specs.Tree.{Tree}
 use Rattle.cic_rules.specs.declared.context.Hyp.{Hyp}
 use Rattle.cic_rules.specs.declared.env.Slot.{Slot}
 use Rattle.cic_rules.specs.Fuel.{FuelState, left, calls_left}
-use Rattle.cic_rules.specs.Runs.{Ran, Run, pure}
+use Rattle.cic_rules.specs.Runs.{Ran, Run, ◌>>=◌, pure}
 use Rattle.matching.specs.Patterns.{Values}
 use Rattle.proof_state.specs.declared.goals.Goal.{Goal}
 use Rattle.proof_state.specs.declared.state.Filling.{Filling}
 use Rattle.proof_state.specs.declared.state.Refined.{Refined}
-use Rattle.proof_state.specs.Partial.{Partial}
+use Rattle.proof_state.specs.Partial.{Partial, Applies}
 use Rattle.proof_state.specs.Proof.{Proof}
 use Rattle.move_basic.specs.declared.equality.Equation.{Equation}
 use Rattle.move_basic.specs.declared.opening.Opening.{Opening}
 use Rattle.move_basic.specs.Intro.{opened, intro, intros_named, intros_all, intros, entered, hole}
 use Rattle.move_basic.specs.Terms.{exact, tried, assumed, assumption}
-use Rattle.move_basic.specs.Apply.{matched, last_match, first_match, match_at_end, argument_by, argument, with_arguments, apply, apply_to_all}
+use Rattle.move_basic.specs.Apply.{matched, last_match, first_match, match_at_end, argument_by, argument, with_arguments, is_used_later, apply, apply_to_all}
 use Rattle.move_basic.specs.Constructors.{construct}
 use Rattle.move_basic.specs.Equality.{by_sides, reflexivity}
 use Rattle.move_basic.specs.Moves.{run_basic, run_move}
@@ -95,6 +95,15 @@ argument_with env ctx values count a used f = argument env (calls_left f) ctx va
 
 abbrev pub arguments_with : List Slot → List Hyp → Values → ℕ → Tree → Partial Goal → FuelState → Ran (Partial Goal)
 arguments_with env ctx values count ty function f = with_arguments env (calls_left f) ctx values count ty function (left f)
+
+-- the argument for a product's variable, and then those behind it
+abbrev pub next_argument : List Slot → ℕ → List Hyp → Values → ℕ → Tree → Tree → Partial Goal → Run (Partial Goal)
+next_argument env calls ctx values count a b function = do
+  x ← argument env calls ctx values count a (is_used_later (count - 1) b 0)
+  with_arguments env calls ctx values (count - 1) b (Applies function x)
+
+abbrev pub next_argument_with : List Slot → List Hyp → Values → ℕ → Tree → Tree → Partial Goal → FuelState → Ran (Partial Goal)
+next_argument_with env ctx values count a b function f = next_argument env (calls_left f) ctx values count a b function (left f)
 
 abbrev pub basic_with : List Slot → Goal → Move → FuelState → Ran Filling
 basic_with env g m f = run_basic env (calls_left f) g m (left f)

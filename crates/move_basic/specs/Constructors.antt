@@ -1,46 +1,61 @@
 -- A constructor for a goal whose type is inductive.
-use Rattle.std.specs.Prelude.{ℕ, ◌==◌, List, length, take, true, Option, Some, None, if◌then◌else◌, slice_get}
-use Rattle.core_term.specs.Tree.{Tree, Constant}
-use Rattle.term_spine.specs.Spine.{head_of, arguments_of, apply_all}
+use Rattle.std.specs.Prelude.{ℕ, ◌+◌, ◌==◌, nat_lt, List, length, true, Option, Some, None, Ok, Err, if◌then◌else◌, slice_get}
+use Rattle.base_core.specs.declared.refusals.Place.TheVariants.{Whole}
+use Rattle.core_term.specs.Tree.{Tree, Constant, App, is_small}
+use Rattle.term_spine.specs.Spine.{head_of}
 use Rattle.cic_rules.specs.declared.context.Hyp.{Hyp}
 use Rattle.cic_rules.specs.declared.decls.Ctor.{Ctor}
 use Rattle.cic_rules.specs.declared.decls.InductiveDecl.{InductiveDecl}
 use Rattle.cic_rules.specs.declared.env.Slot.{Slot}
 use Rattle.cic_rules.specs.Environments.{decl_at, place_in}
 use Rattle.cic_rules.specs.Reduce.{whnf_at}
-use Rattle.cic_rules.specs.Runs.{Run, ◌>>=◌, ◌>>◌, check_size, some_or}
+use Rattle.cic_rules.specs.Runs.{Run, ◌>>=◌}
+use Rattle.cic_rules.specs.Steps.{Step, TooLarge, step_then, refuse_step, take_step}
 use Rattle.proof_state.specs.declared.goals.Goal.{Goal}
 use Rattle.proof_state.specs.Partial.{Partial}
 use Rattle.move_basic.specs.Apply.{apply_to_all}
+use Rattle.move_basic.specs.Naming.{constant_of}
 
 -- the global of a constructor
 abbrev pub place_of : List Slot → Option Ctor → Option ℕ
 place_of env None = None
 place_of env (Some c) = place_in env c.name
 
--- a global applied to the first of the arguments
-abbrev pub at_params : ℕ → List Tree → Option ℕ → Option Tree
-at_params params args None = None
-at_params params args (Some place) = Some (apply_all (Constant place) (take params args))
+-- a term that was made, where it is not too large
+abbrev pub sized : Tree → Step Tree
+sized t = if is_small t then Ok t else Err TooLarge
 
--- of an inductive type with so many constructors, the one with an index, at the parameters
-abbrev pub constructor_by : List Slot → ℕ → ℕ → List Tree → Option InductiveDecl → Option Tree
-constructor_by env count index args None = None
-constructor_by env count index args (Some d) =
-    if length d.ctors == count then at_params (length d.params) args (place_of env (slice_get d.ctors index)) else None
+abbrev pub count_arguments : Tree → ℕ
+count_arguments (App f a) = count_arguments f + 1
+count_arguments t = 0
 
-abbrev pub constructor_of_head : List Slot → ℕ → ℕ → List Tree → Tree → Option Tree
-constructor_of_head env count index args (Constant c) = constructor_by env count index args (decl_at env c)
-constructor_of_head env count index args _ = None
+-- a global applied to the first of the term's arguments, so many
+abbrev pub at_params : ℕ → ℕ → Tree → Step Tree
+at_params params place (App f a) =
+    if nat_lt (count_arguments f) params then step_then (at_params params place f) (λ g. sized (App g a)) else at_params params place f
+at_params params place t = Ok (Constant place)
+
+abbrev pub at_place : ℕ → ℕ → Tree → Option ℕ → Step Tree
+at_place code params t None = refuse_step code Whole
+at_place code params t (Some place) = at_params params place t
+
+-- of an inductive type with so many constructors, the one with an index, at the parameters; else the refusal
+abbrev pub constructor_by : List Slot → ℕ → ℕ → ℕ → Tree → Option InductiveDecl → Step Tree
+constructor_by env count index code t None = refuse_step code Whole
+constructor_by env count index code t (Some d) =
+    if length d.ctors == count then at_place code (length d.params) t (place_of env (slice_get d.ctors index)) else refuse_step code Whole
+
+abbrev pub decl_of_place : List Slot → Option ℕ → Option InductiveDecl
+decl_of_place env None = None
+decl_of_place env (Some c) = decl_at env c
 
 -- of the inductive type that a term is
-abbrev pub constructor_term : List Slot → ℕ → ℕ → Tree → Option Tree
-constructor_term env count index t = constructor_of_head env count index (arguments_of t) (head_of t)
+abbrev pub constructor_term : List Slot → ℕ → ℕ → ℕ → Tree → Step Tree
+constructor_term env count index code t = constructor_by env count index code t (decl_of_place env (constant_of (head_of t)))
 
--- the constructor with an index, where there are so many, applied with all of its arguments; else the refusal
+-- the constructor with an index, where there are so many, applied with all of its arguments
 abbrev pub construct : List Slot → ℕ → ℕ → ℕ → ℕ → List Hyp → Tree → Run (Partial Goal)
 construct env calls count index code ctx ty = do
   reduced ← whnf_at env true calls ctx ty
-  t ← some_or code (constructor_term env count index reduced)
-  check_size t
+  t ← take_step (constructor_term env count index code reduced)
   apply_to_all env calls ctx ty t

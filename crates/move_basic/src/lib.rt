@@ -2,6 +2,8 @@
 //! `reflexivity` and `admit`.
 #![tactic(auto)]
 
+mod applying;
+mod constructing;
 mod equality;
 mod introduction;
 mod laws;

@@ -96,7 +96,7 @@ fn lower_letter(letter: u8, other: u8) -> u8
 }
 
 /// The global that heads a term.
-fn head_constant(t: &Term) -> Option<u32>
+pub(crate) fn head_constant(t: &Term) -> Option<u32>
     ensures { result ≡ constant_of (head_of t.now) }
 {
     match t.node() {
