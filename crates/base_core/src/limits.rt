@@ -21,6 +21,9 @@ pub const DOCUMENT_LIMIT: usize = 64;
 /// How many requests may wait for a document's end.
 pub const WAITING_LIMIT: usize = 256;
 
+/// How many finished sentences are kept.
+pub const TABLE_LIMIT: usize = 40_000;
+
 /// Units of fuel for the judgements of a sentence.
 pub const UNIT_LIMIT: u32 = 1_000_000;
 

@@ -7,7 +7,7 @@ use Rattle.lru.specs.LruCache.{LruCache, lru_cache, put_entries, displaced, prom
 use Rattle.lru.proofs.CallerLemmas.{Contains-take, Contains-promoted}
 use Rattle.memo_table.specs.declared.key.Key.{Key}
 use Rattle.memo_table.specs.declared.slots.Entry.{Entry}
-use Rattle.memo_table.specs.declared.slots.TheConstants.{TABLE_LIMIT}
+use Rattle.base_core.specs.declared.limits.TheConstants.{TABLE_LIMIT}
 use Rattle.memo_table.specs.Entries.{entry_of, same_key, number_of, entered}
 use Rattle.memo_table.specs.Index.{IsIndexed}
 use Rattle.memo_table.proofs.Indexing.{Listed, noting_listed, pushed_listed, refused_listed, taken_listed}

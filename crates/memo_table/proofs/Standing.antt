@@ -9,7 +9,7 @@ use Rattle.prover_iface.specs.Sentences.{Sentence}
 use Rattle.prover_iface.specs.Meanings.{Meanings, state_behind}
 use Rattle.memo_table.specs.declared.key.Key.{Key}
 use Rattle.memo_table.specs.declared.slots.Entry.{Entry}
-use Rattle.memo_table.specs.declared.slots.TheConstants.{TABLE_LIMIT}
+use Rattle.base_core.specs.declared.limits.TheConstants.{TABLE_LIMIT}
 use Rattle.memo_table.specs.declared.table.Kept.{Kept}
 use Rattle.memo_table.specs.Entries.{entry_of, same_key, number_of, made_of, touched}
 use Rattle.memo_table.specs.Fits.{sentence_of, behind_key, extended, IsMade, IsRow}

@@ -4,7 +4,7 @@ use Rattle.std.specs.HashMap.{HashMap, get}
 use Rattle.lru.specs.LruCache.{LruCache}
 use Rattle.memo_table.specs.declared.key.Key.{Key}
 use Rattle.memo_table.specs.declared.slots.Entry.{Entry}
-use Rattle.memo_table.specs.declared.slots.TheConstants.{TABLE_LIMIT}
+use Rattle.base_core.specs.declared.limits.TheConstants.{TABLE_LIMIT}
 use Rattle.memo_table.specs.Entries.{same_key}
 
 -- each entry is found by its key

@@ -9,5 +9,5 @@ mod table;
 
 pub use key::Key;
 pub use laws::{law_of_calls, law_of_entries, law_of_numbers, law_of_plain_entries};
-pub use slots::{Entry, TABLE_LIMIT};
+pub use slots::Entry;
 pub use table::{Kept, MemoTable};

@@ -3,18 +3,16 @@ ghost use Rattle.std.specs.Prelude.{◌≡◌, ◌-◌, ◌≤◌, [], None, nat
 ghost use Rattle.std.specs.Map.{lookup, keys_of};
 ghost use Rattle.std.specs.List.{IsDistinct};
 ghost use Rattle.lru.specs.LruCache.{promoted, last_entry};
+ghost use Rattle.base_core.specs.declared.limits.TheConstants.{TABLE_LIMIT};
 ghost use Rattle.memo_table.specs.Entries.{entry_of, number_of, made_of, touched, entered, trimmed, IsTurn};
 
 use crate::key::Key;
-use base_core::NoMem;
+use base_core::{NoMem, TABLE_LIMIT};
 use lru::LruCache;
 use std::alloc::Global;
 use std::collections::{HashMap, HashSet};
 use std::marker::Model;
 use std::num::NonZeroUsize;
-
-/// How many entries the table holds at most.
-pub const TABLE_LIMIT: usize = 40_000;
 
 /// An entry: its key, and what came of it. Its number stands beside it.
 #[derive(Debug, Drop)]

@@ -2,11 +2,12 @@
 ghost use Rattle.std.specs.Prelude.{◌≡◌, ℕ, ◌+◌, ◌≤◌, [], None, nat_eq, length, option_copied, IfOk, OnOk, OnErr};
 ghost use Rattle.std.specs.List.{list_any, IsDistinct};
 ghost use Rattle.std.specs.Map.{keys_of};
+ghost use Rattle.base_core.specs.declared.limits.TheConstants.{TABLE_LIMIT};
 ghost use Rattle.memo_table.specs.Entries.{number_of, made_of, touched, trimmed};
 ghost use Rattle.memo_table.specs.Table.{table, with_rows, with_kept, IsCounted};
 
 use crate::key::Key;
-use crate::slots::{Slots, TABLE_LIMIT};
+use crate::slots::Slots;
 use base_core::NoMem;
 use prover_iface::DiagList;
 use std::alloc::Global;

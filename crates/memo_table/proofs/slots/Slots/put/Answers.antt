@@ -1,5 +1,5 @@
 use Rattle.std.proofs.Common.{rules, ap, ◌∙◌}
-use Rattle.memo_table.specs.declared.slots.TheConstants.{TABLE_LIMIT}
+use Rattle.base_core.specs.declared.limits.TheConstants.{TABLE_LIMIT}
 use Rattle.memo_table.specs.Entries.{entry_of, entered}
 use Rattle.memo_table.proofs.Changing.{put_entered, put_indexed, pushed_indexed, refused_indexed}
 use Rattle.memo_table.proofs.slots.Slots.put.Goals as goal

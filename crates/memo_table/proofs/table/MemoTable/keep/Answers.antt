@@ -1,5 +1,5 @@
 use Rattle.std.proofs.Common.{rules}
-use Rattle.memo_table.specs.declared.slots.TheConstants.{TABLE_LIMIT}
+use Rattle.base_core.specs.declared.limits.TheConstants.{TABLE_LIMIT}
 use Rattle.memo_table.proofs.Counting.{next_fresh, counted_entered}
 use Rattle.memo_table.proofs.table.MemoTable.keep.Goals as goal
 
