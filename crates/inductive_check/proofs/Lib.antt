@@ -1,5 +1,4 @@
 pub mod FormLaws
-pub mod NameLaws
 pub mod RowLaws
 pub mod OpenLaws
 pub mod PartLaws

@@ -11,10 +11,10 @@ use crate::labels::{argument_name, case_name, hypothesis_name, value_name};
 use crate::levels::{
     Site, applied_to_context, applied_to_indices, applied_to_row, level_variable, placed, within,
 };
-use crate::names::Names;
 use base_core::Text;
 use cic_rules::{CheckedInductive, Ctor, GlobalEnv};
 use core_term::{Node, Sort, Term, TermStop};
+use fresh_names::Names;
 use std::alloc::Global;
 
 /// The motive of an eliminator: the level of its binder, which is the number of parameters, and

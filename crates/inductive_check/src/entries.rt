@@ -16,13 +16,14 @@ use crate::elimination::{Motive, cases, motive_type};
 use crate::families::type_of_decl;
 use crate::labels::is_in_prop;
 use crate::levels::Site;
-use crate::names::{Names, eliminator_name};
+use crate::names::eliminator_name;
 use crate::parts::products_over;
 use base_core::{Limit, List, NoMem, NumberList, Stop, TERM_DEPTH_LIMIT, Text};
 use cic_rules::{
     CheckedInductive, Ctor, Entry, EntryKind, EntryList, GlobalEnv, Hyp, InductiveDecl,
 };
 use core_term::{Sort, Term, TermStop};
+use fresh_names::Names;
 use shared_map::SharedList;
 use std::alloc::Global;
 

@@ -1,67 +1,13 @@
-//! Names that are taken, and the names of an inductive declaration.
-ghost use Rattle.std.specs.Prelude.{◌≡◌, [], ◌∷◌, ◌++◌, length, IfOk, OnOk};
-ghost use Rattle.cic_rules.specs.Eliminators.{has_name, eliminator_name};
+//! The names of an inductive declaration.
+ghost use Rattle.std.specs.Prelude.{◌≡◌, ◌++◌, IfOk, OnOk};
+ghost use Rattle.cic_rules.specs.Eliminators.{eliminator_name};
 ghost use Rattle.cic_rules.specs.Inductive.{names_of, has_twice, any_taken, ctor_names};
 
 use base_core::{NoMem, Text};
 use cic_rules::{Ctor, GlobalEnv, InductiveDecl};
 use core_term::Sort;
-use shared_map::{SharedList, SharedMap};
+use fresh_names::Names;
 use std::alloc::Global;
-use std::marker::Model;
-
-/// Names that are taken, which contracts see as a list, the newest first. A change gives new ones,
-/// and the old ones stay.
-#[derive(Drop)]
-pub(crate) struct Names {
-    names: SharedList<Text>,
-    index: SharedMap<Text, ()>,
-}
-
-impl Model for Names {
-    ghost use Rattle.std.specs.Prelude.{ℕ, List};
-
-    ghost Value = { List (List ℕ) };
-
-    ghost view = { λ s. s.names };
-
-    ghost use Rattle.inductive_check.specs.Names.{IsIndex};
-
-    ghost invariant = { λ s. IsIndex s.index s.names };
-}
-
-impl Names {
-    pub(crate) fn empty() -> Names
-        ensures { result ≡ [] }
-    {
-        Names {
-            names: SharedList::empty(),
-            index: SharedMap::empty(),
-        }
-    }
-
-    /// These names with one more.
-    pub(crate) fn with(&self, alloc: Global, name: &Text) -> Result<Names, NoMem>
-        ensures { IfOk result (λ s. s ≡ name.now ∷ self.now) }
-    {
-        let index = self.index.with(alloc, name.share()?, ())?;
-        let names = self.names.with_first(alloc, name.share()?)?;
-        Ok(Names { names, index })
-    }
-
-    pub(crate) fn len(&self) -> usize
-        ensures { result ≡ length self.now }
-    {
-        self.names.len()
-    }
-
-    /// Whether the name is taken, in a time that is logarithmic in the number of names.
-    pub(crate) fn has(&self, name: &Text) -> bool
-        ensures { result ≡ has_name self.now name.now }
-    {
-        self.index.get(name).is_some()
-    }
-}
 
 /// The name of the eliminator into a sort.
 pub(crate) fn eliminator_name(alloc: Global, d: &InductiveDecl, sort: Sort) -> Result<Text, NoMem>

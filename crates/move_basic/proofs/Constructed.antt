@@ -11,7 +11,7 @@ use Rattle.cic_rules.specs.Scopes.{IsScoped}
 use Rattle.cic_rules.specs.Steps.{Refuses, Step, TooLarge, step_then, answer_of}
 use Rattle.cic_rules.proofs.PlaceLaws.{place_below}
 use Rattle.move_basic.specs.Constructors.{place_of, sized, count_arguments, at_params, at_place, constructor_by, decl_of_place, constructor_term}
-use Rattle.move_basic.specs.Naming.{constant_of}
+use Rattle.fresh_names.specs.Letters.{constant_of}
 
 sized_by : (n m : ℕ) (b : Bool) (t u : Tree) → IsScoped n m t → (if b then Ok t else Err TooLarge) ≡ Ok u → IsScoped n m u
 sized_by n m true t u scoped e = let same : t ≡ u = cc in subst (IsScoped n m) same scoped

@@ -3,9 +3,6 @@ pub mod FuelOfMoves
 pub mod Hypotheses
 pub mod Lists
 pub mod Assumed
-pub mod LabelLaws
-pub mod NameLaws
-pub mod ShownNames
 pub mod Arguments
 pub mod Constructed
 pub mod Openings

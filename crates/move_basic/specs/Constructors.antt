@@ -14,7 +14,7 @@ use Rattle.cic_rules.specs.Steps.{Step, TooLarge, step_then, refuse_step, take_s
 use Rattle.proof_state.specs.declared.goals.Goal.{Goal}
 use Rattle.proof_state.specs.Partial.{Partial}
 use Rattle.move_basic.specs.Apply.{apply_to_all}
-use Rattle.move_basic.specs.Naming.{constant_of}
+use Rattle.fresh_names.specs.Letters.{constant_of}
 
 -- the global of a constructor
 abbrev pub place_of : List Slot → Option Ctor → Option ℕ

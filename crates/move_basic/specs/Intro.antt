@@ -13,7 +13,8 @@ use Rattle.cic_rules.specs.Steps.{take_step}
 use Rattle.proof_state.specs.declared.goals.Goal.{Goal}
 use Rattle.proof_state.specs.Partial.{Partial, Hole, Abstracts, Defines}
 use Rattle.move_basic.specs.declared.opening.Opening.{Opening}
-use Rattle.move_basic.specs.Names.{shown_names, new_name}
+use Rattle.fresh_names.specs.Shown.{shown_names}
+use Rattle.move_basic.specs.Names.{new_name}
 
 -- a type's binder as a hypothesis, and what stands under it
 abbrev pub opening : Hyp → Tree → Opening

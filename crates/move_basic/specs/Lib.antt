@@ -1,5 +1,4 @@
 pub mod Names
-pub mod Naming
 pub mod Intro
 pub mod Terms
 pub mod Apply

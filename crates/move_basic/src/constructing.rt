@@ -10,11 +10,11 @@ ghost use Rattle.move_basic.specs.Scopes.{IsSketchIn};
 ghost use Rattle.move_basic.specs.Calls.{construct_with};
 
 use crate::applying::apply_to_all;
-use crate::naming::head_constant;
 use crate::refusals::refusal;
 use base_core::Stop;
 use cic_rules::{Context, Fuel, GlobalEnv, Judge};
 use core_term::{Node, Term};
+use fresh_names::head_constant;
 use proof_state::{Goal, Sketch};
 use std::alloc::Global;
 

@@ -7,12 +7,11 @@ ghost use Rattle.cic_rules.specs.Judges.{MayJudge, IsTermIn, Meets};
 ghost use Rattle.cic_rules.specs.Scopes.{IsScopedHyp, IsScoped};
 ghost use Rattle.cic_rules.specs.Steps.{answer_of};
 ghost use Rattle.move_basic.specs.Intro.{hole, under_hyp, intros_all};
-ghost use Rattle.move_basic.specs.Names.{shown_names, given_name, new_name};
+ghost use Rattle.fresh_names.specs.Shown.{shown_names};
+ghost use Rattle.move_basic.specs.Names.{given_name, new_name};
 ghost use Rattle.move_basic.specs.Scopes.{IsSketchIn, IsOpeningIn};
 ghost use Rattle.move_basic.specs.Calls.{opened_with, intro_with, named_with, intros_with, entered_all, one_binder, named_behind};
 
-use crate::names::Names;
-use crate::naming::automatic;
 use crate::opening::{Opening, defined_hyp, opening_of, plain_hyp};
 use crate::refusals::refusal;
 use base_core::refusal_codes::{NAME_USED, NO_PRODUCT};
@@ -20,6 +19,7 @@ use base_core::{NoMem, Stop, Text};
 use cic_rules::{Context, Fuel, GlobalEnv, Hyp, Judge};
 use coq_syntax::Word;
 use core_term::{Node, Term};
+use fresh_names::{Names, automatic};
 use proof_state::{Goal, Sketch};
 use std::alloc::Global;
 

@@ -7,8 +7,6 @@ mod constructing;
 mod equality;
 mod introduction;
 mod laws;
-mod names;
-mod naming;
 mod opening;
 mod refusals;
 mod whole_terms;

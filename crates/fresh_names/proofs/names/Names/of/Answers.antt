@@ -1,6 +1,6 @@
 use Rattle.std.proofs.Common.{rules, arith}
-use Rattle.move_basic.proofs.ShownNames.{one_name_more}
-use Rattle.move_basic.proofs.names.Names.of.Goals as goal
+use Rattle.fresh_names.proofs.ShownNames.{one_name_more}
+use Rattle.fresh_names.proofs.names.Names.of.Goals as goal
 
 pub loop-at-preserved : goal.loop-at-preserved
 loop-at-preserved c =

@@ -7,7 +7,7 @@ use Rattle.term_spine.specs.Spine.{head_of}
 use Rattle.cic_rules.specs.declared.env.Slot.{Slot}
 use Rattle.cic_rules.specs.Environments.{decl_at}
 use Rattle.cic_rules.specs.Eliminators.{digits_before, digits, has_name, first_free, initial_of_type}
-use Rattle.move_basic.specs.Naming.{constant_of, name_of_decl}
+use Rattle.fresh_names.specs.Letters.{constant_of, name_of_decl}
 
 -- digits before others
 append_by : (b : Bool) (t n : ℕ) (later : List ℕ) → ((m : ℕ) (more : List ℕ) → digits_before t m more ≡ digits_before t m [] ++ more) →

@@ -1,7 +1,7 @@
-//! The names of hypotheses.
+//! Names that are taken.
 ghost use Rattle.std.specs.Prelude.{◌≡◌, [], ◌∷◌, length, IfOk};
 ghost use Rattle.cic_rules.specs.Eliminators.{has_name};
-ghost use Rattle.move_basic.specs.Names.{shown_names, with_shown};
+ghost use Rattle.fresh_names.specs.Shown.{shown_names, with_shown};
 
 use base_core::{NoMem, Text};
 use cic_rules::Context;
@@ -9,10 +9,10 @@ use shared_map::{SharedList, SharedMap};
 use std::alloc::Global;
 use std::marker::Model;
 
-/// The names of hypotheses, which contracts see as a list, the newest first. A change gives new ones, and the
-/// old ones stay.
+/// Names that are taken, which contracts see as a list, the newest first. A change gives new ones, and the old
+/// ones stay.
 #[derive(Drop)]
-pub(crate) struct Names {
+pub struct Names {
     names: SharedList<Text>,
     index: SharedMap<Text, ()>,
 }
@@ -24,14 +24,14 @@ impl Model for Names {
 
     ghost view = { λ s. s.names };
 
-    ghost use Rattle.move_basic.specs.Naming.{IsIndex};
+    ghost use Rattle.fresh_names.specs.Index.{IsIndex};
 
     ghost invariant = { λ s. IsIndex s.index s.names };
 }
 
 impl Names {
     /// The names of a context's hypotheses.
-    pub(crate) fn of(alloc: Global, ctx: &Context) -> Result<Names, NoMem>
+    pub fn of(alloc: Global, ctx: &Context) -> Result<Names, NoMem>
         ensures { IfOk result (λ s. s ≡ shown_names ctx.now) }
     {
         let mut names = Names::empty();
@@ -47,7 +47,7 @@ impl Names {
     }
 
     /// These names with that of one more hypothesis.
-    pub(crate) fn with_shown(&self, alloc: Global, name: &Text) -> Result<Names, NoMem>
+    pub fn with_shown(&self, alloc: Global, name: &Text) -> Result<Names, NoMem>
         ensures { IfOk result (λ s. s ≡ with_shown name.now self.now) }
     {
         if name.as_str() == "_" {
@@ -56,7 +56,7 @@ impl Names {
         self.with(alloc, name)
     }
 
-    fn share(&self) -> Result<Names, NoMem>
+    pub fn share(&self) -> Result<Names, NoMem>
         ensures { IfOk result (λ s. s ≡ self.now) }
     {
         let names = self.names.share()?;
@@ -64,7 +64,7 @@ impl Names {
         Ok(Names { names, index })
     }
 
-    fn empty() -> Names
+    pub fn empty() -> Names
         ensures { result ≡ [] }
     {
         Names {
@@ -74,7 +74,7 @@ impl Names {
     }
 
     /// These names with one more.
-    fn with(&self, alloc: Global, name: &Text) -> Result<Names, NoMem>
+    pub fn with(&self, alloc: Global, name: &Text) -> Result<Names, NoMem>
         ensures { IfOk result (λ s. s ≡ name.now ∷ self.now) }
     {
         let index = self.index.with(alloc, name.share()?, ())?;
@@ -82,14 +82,14 @@ impl Names {
         Ok(Names { names, index })
     }
 
-    pub(crate) fn len(&self) -> usize
+    pub fn len(&self) -> usize
         ensures { result ≡ length self.now }
     {
         self.names.len()
     }
 
     /// Whether the name is taken, in a time that is logarithmic in the number of names.
-    pub(crate) fn has(&self, name: &Text) -> bool
+    pub fn has(&self, name: &Text) -> bool
         ensures { result ≡ has_name self.now name.now }
     {
         self.index.get(name).is_some()

@@ -3,7 +3,7 @@ ghost use Rattle.std.specs.Prelude.{◌≡◌, ◌<◌, ◌∷◌, [], ◌++◌,
 ghost use Rattle.term_spine.specs.Spine.{head_of, end_of_products};
 ghost use Rattle.cic_rules.specs.Environments.{decl_at};
 ghost use Rattle.cic_rules.specs.Eliminators.{digits, first_free as first_free_name, free_name as the_free_name, initial as initial_letter, is_prop, one_letter, lower_letter, initial_of_type as initial_by, automatic as the_automatic_name};
-ghost use Rattle.move_basic.specs.Naming.{constant_of, name_of_decl};
+ghost use Rattle.fresh_names.specs.Letters.{constant_of, name_of_decl};
 
 use crate::names::Names;
 use base_core::{NoMem, Text};
@@ -57,7 +57,7 @@ fn first_free(alloc: Global, names: &Names, stem: &Text) -> Result<Text, NoMem>
 }
 
 /// The first of the stem and the stem with a number behind it that is free.
-fn free_name(alloc: Global, names: &Names, stem: &Text) -> Result<Text, NoMem>
+pub fn free_name(alloc: Global, names: &Names, stem: &Text) -> Result<Text, NoMem>
     ensures { IfOk result (λ free. free ≡ the_free_name names.now stem.now) }
 {
     if !names.has(stem) {
@@ -68,7 +68,7 @@ fn free_name(alloc: Global, names: &Names, stem: &Text) -> Result<Text, NoMem>
 }
 
 /// The first letter of a name in lower case, where it is an ASCII letter, else another.
-fn initial(alloc: Global, name: &Text, other: u8) -> Result<Text, NoMem>
+pub fn initial(alloc: Global, name: &Text, other: u8) -> Result<Text, NoMem>
     requires { other < 128 }
     ensures { IfOk result (λ text. text ≡ initial_letter name.now other) }
 {
@@ -96,7 +96,7 @@ fn lower_letter(letter: u8, other: u8) -> u8
 }
 
 /// The global that heads a term.
-pub(crate) fn head_constant(t: &Term) -> Option<u32>
+pub fn head_constant(t: &Term) -> Option<u32>
     ensures { result ≡ constant_of (head_of t.now) }
 {
     match t.node() {
@@ -154,7 +154,7 @@ fn ends_in_prop(t: &Term) -> bool
 }
 
 /// The automatic name of a binder of this name and type.
-pub(crate) fn automatic(
+pub fn automatic(
     alloc: Global,
     env: &GlobalEnv,
     names: &Names,

@@ -6,7 +6,7 @@ use Rattle.std.specs.Cmp.Lexicographic.{slice_cmp}
 use Rattle.std.proofs.lemmas.Map.Text.{is_eq-slice_cmp}
 use Rattle.shared_map.specs.Entries.{look, PutsOnly}
 use Rattle.cic_rules.specs.Eliminators.{same_name, has_name}
-use Rattle.move_basic.specs.Naming.{IsIndex}
+use Rattle.fresh_names.specs.Index.{IsIndex}
 
 there_by : (b : Bool) (value : Unit {0}) (old : Option (Unit {0})) → is_some (if b then Some value else old) ≡ (if b then true else is_some old)
 there_by true value old = refl

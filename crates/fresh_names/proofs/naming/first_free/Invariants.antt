@@ -1,6 +1,6 @@
 use Rattle.std.proofs.Common.{◌≡◌, ◌-◌, ◌++◌}
 use Rattle.cic_rules.specs.Eliminators.{digits, first_free}
-use Rattle.move_basic.proofs.naming.first_free.Given as goal
+use Rattle.fresh_names.proofs.naming.first_free.Given as goal
 
 abbrev pub invariant-loop-k : goal.invariant-loop-k
 invariant-loop-k l =

@@ -1,4 +1,4 @@
-use Rattle.inductive_check.proofs.labels.+push_digits.Given as goal
+use Rattle.fresh_names.proofs.naming.+push_digits.Given as goal
 
 abbrev pub decreases-push_digits : goal.decreases-push_digits
 decreases-push_digits l = l.n

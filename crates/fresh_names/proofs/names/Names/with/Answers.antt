@@ -1,6 +1,6 @@
 use Rattle.std.proofs.Common.{rules}
-use Rattle.move_basic.proofs.NameLaws.{index_more}
-use Rattle.move_basic.proofs.names.Names.with.Goals as goal
+use Rattle.fresh_names.proofs.NameLaws.{index_more}
+use Rattle.fresh_names.proofs.names.Names.with.Goals as goal
 
 pub invariant_of-result : goal.invariant_of-result
 invariant_of-result c =

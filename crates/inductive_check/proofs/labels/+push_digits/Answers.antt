@@ -1,6 +1,0 @@
-use Rattle.std.proofs.Common.{arith}
-use Rattle.inductive_check.proofs.LabelLaws.{digits_next}
-use Rattle.inductive_check.proofs.labels.+push_digits.Goals as goal
-
-pub returns : goal.returns
-returns t c = digits_next _ _ _ _ c.args.n (grind arith) c.in_ok-push_digits.ensures c.push_letter-2.ensures
