@@ -12,7 +12,8 @@ use Rattle.proof_state.specs.declared.goals.Goal.{Goal}
 use Rattle.proof_state.specs.Partial.{Partial}
 use Rattle.move_basic.specs.declared.opening.Opening.{Opening}
 use Rattle.move_basic.specs.Intro.{opening_of, under_binder, under_hyp, named}
-use Rattle.move_basic.specs.Scopes.{IsOpeningIn, IsSketchIn}
+use Rattle.proof_state.specs.Scopes.{IsSketchIn}
+use Rattle.move_basic.specs.Scopes.{IsOpeningIn}
 
 pub opening_scoped : (env : List Slot) (ctx : List Hyp) (t : Tree) (o : Opening) → opening_of t ≡ Some o → IsTermIn env ctx t → IsOpeningIn env ctx o
 opening_scoped env ctx (Prod n a b) o e scoped =

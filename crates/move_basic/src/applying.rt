@@ -10,7 +10,8 @@ ghost use Rattle.matching.specs.Patterns.{value_at, has_unset, fill};
 ghost use Rattle.matching.specs.Scopes.{IsPatternIn, AreValues};
 ghost use Rattle.move_basic.specs.Apply.{is_used_later};
 ghost use Rattle.proof_state.specs.Partial.{Ready};
-ghost use Rattle.move_basic.specs.Scopes.{AreFoundFor, IsSketchIn};
+ghost use Rattle.proof_state.specs.Scopes.{IsSketchIn};
+ghost use Rattle.move_basic.specs.Scopes.{AreFoundFor};
 ghost use Rattle.move_basic.specs.Calls.{matched_with, last_match_with, first_match_with, match_at_end_with, argument_by_with, argument_with, arguments_with, next_argument_with, apply_with, apply_to_all_with};
 
 use crate::refusals::refusal;

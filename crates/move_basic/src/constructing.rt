@@ -6,7 +6,7 @@ ghost use Rattle.cic_rules.specs.Fuel.{left, IsSpentOf};
 ghost use Rattle.cic_rules.specs.Judges.{MayJudge, IsTermIn, Meets};
 ghost use Rattle.cic_rules.specs.Steps.{answer_of};
 ghost use Rattle.move_basic.specs.Constructors.{count_arguments, at_params, constructor_term};
-ghost use Rattle.move_basic.specs.Scopes.{IsSketchIn};
+ghost use Rattle.proof_state.specs.Scopes.{IsSketchIn};
 ghost use Rattle.move_basic.specs.Calls.{construct_with};
 
 use crate::applying::apply_to_all;

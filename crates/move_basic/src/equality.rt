@@ -4,7 +4,8 @@ ghost use Rattle.cic_rules.specs.Fuel.{left, IsSpentOf};
 ghost use Rattle.cic_rules.specs.Judges.{MayJudge, IsTermIn, Meets};
 ghost use Rattle.core_term.specs.Answers.{within_limits, Gives};
 ghost use Rattle.move_basic.specs.Equality.{sides_of, equation_of, reflexive};
-ghost use Rattle.move_basic.specs.Scopes.{IsSketchIn, IsEquationIn};
+ghost use Rattle.proof_state.specs.Scopes.{IsSketchIn};
+ghost use Rattle.move_basic.specs.Scopes.{IsEquationIn};
 ghost use Rattle.move_basic.specs.Calls.{by_sides_with, reflexivity_with};
 
 use crate::refusals::refusal;

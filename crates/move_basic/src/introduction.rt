@@ -9,7 +9,8 @@ ghost use Rattle.cic_rules.specs.Steps.{answer_of};
 ghost use Rattle.move_basic.specs.Intro.{hole, under_hyp, intros_all};
 ghost use Rattle.fresh_names.specs.Shown.{shown_names};
 ghost use Rattle.move_basic.specs.Names.{given_name, new_name};
-ghost use Rattle.move_basic.specs.Scopes.{IsSketchIn, IsOpeningIn};
+ghost use Rattle.proof_state.specs.Scopes.{IsSketchIn};
+ghost use Rattle.move_basic.specs.Scopes.{IsOpeningIn};
 ghost use Rattle.move_basic.specs.Calls.{opened_with, intro_with, named_with, intros_with, entered_all, one_binder, named_behind};
 
 use crate::opening::{Opening, defined_hyp, opening_of, plain_hyp};

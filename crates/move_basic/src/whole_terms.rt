@@ -2,7 +2,7 @@
 ghost use Rattle.std.specs.Prelude.{◌≡◌, Some, slice_get, IfOk};
 ghost use Rattle.cic_rules.specs.Fuel.{left, IsSpentOf};
 ghost use Rattle.cic_rules.specs.Judges.{MayJudge, IsTermIn, Meets};
-ghost use Rattle.move_basic.specs.Scopes.{IsSketchIn};
+ghost use Rattle.proof_state.specs.Scopes.{IsSketchIn};
 ghost use Rattle.move_basic.specs.Calls.{exact_with, tried_with, assumption_with};
 
 use crate::refusals::refusal;

@@ -7,4 +7,5 @@ pub mod Table
 pub mod Numbering
 pub mod Closing
 pub mod IsProof
+pub mod Scopes
 pub mod Laws
