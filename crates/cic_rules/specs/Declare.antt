@@ -2,6 +2,7 @@
 use Rattle.std.specs.Prelude.{◌≡◌, ℕ, List, [], ◌∷◌, Bool, true, ◌&&◌, Option, Some, None, Result, Ok, Err, if◌then◌else◌}
 use Rattle.base_core.specs.declared.refusals.Stop.{Stop}
 use Rattle.base_core.specs.declared.refusals.Stop.TheVariants.{Out}
+use Rattle.base_core.specs.declared.refusal_codes.TheConstants.{NAME_TAKEN}
 use Rattle.base_core.specs.declared.refusals.Limit.TheVariants.{SizeLimit}
 use Rattle.core_term.specs.Tree.{Tree, is_small}
 use Rattle.cic_rules.specs.declared.decls.Decl.{Decl}
@@ -65,13 +66,13 @@ module _ (env : List Slot) where
     -- first a taken name is refused; last the entries must have room
     unfoldable pub declare_at : Decl → Run (List Slot)
     declare_at (Assume name ty) = do
-      forbid (is_taken env name) 25
+      forbid (is_taken env name) NAME_TAKEN
       assume name ty Assumed
     declare_at (Admit name ty) = do
-      forbid (is_taken env name) 25
+      forbid (is_taken env name) NAME_TAKEN
       assume name ty Admitted
     declare_at (Define name ty body opaque) = do
-      forbid (is_taken env name) 25
+      forbid (is_taken env name) NAME_TAKEN
       define name ty body (Defined body opaque)
     declare_at (Induct d) = do
       c ← check_inductive_at env calls d

@@ -1,5 +1,6 @@
 -- Inductive declarations: their refusals in order, and the sorts that their eliminators may go into.
 use Rattle.std.specs.Prelude.{ℕ, zero, suc, ◌+◌, ◌==◌, List, [], ◌∷◌, ◌++◌, length, take, drop, Bool, true, false, ◌&&◌, Option, Some, None, if◌then◌else◌}
+use Rattle.base_core.specs.declared.refusal_codes.TheConstants.{WRONG_RESULT, NOT_POSITIVE, ARGUMENT_UNIVERSE, DUPLICATE_NAME, NAME_TAKEN, NOT_AN_ARITY}
 use Rattle.base_core.specs.declared.refusals.Limit.TheVariants.{DepthLimit}
 use Rattle.core_term.specs.declared.sorts.Sort.{Sort}
 use Rattle.core_term.specs.declared.sorts.Sort.TheVariants.{PropSort, SetSort, TypeSort}
@@ -172,7 +173,7 @@ module _ (d : InductiveDecl) where
   rows_of inner place calls ctx [] = pure (ctor_sorts [] [])
   rows_of inner place calls ctx (c ∷ cs) = do
     r ← row_at inner calls ctx c.ty
-    require (is_constructors place params_of (count_indices d) c.ty) 31
+    require (is_constructors place params_of (count_indices d) c.ty) WRONG_RESULT
     more ← rows_of inner place calls ctx cs
     pure (ctor_sorts (r.domains ∷ more.rows) (union r.used more.used))
 
@@ -189,14 +190,14 @@ module _ (d : InductiveDecl) where
     check_size (type_of_decl d)
     inner ← give (entered env (assumed_type d))
     found ← rows_of inner (length env) calls params.ctx d.ctors
-    require (are_positive (length env) params_of d.ctors) 32
-    require (rows_fit s found.rows) 33
+    require (are_positive (length env) params_of d.ctors) NOT_POSITIVE
+    require (rows_fit s found.rows) ARGUMENT_UNIVERSE
     pure (checked env s found.rows (union (union params.used arity.used) found.used))
 
 -- an inductive declaration, tested in the order of its refusals
 abbrev pub check_inductive_at : List Slot → ℕ → InductiveDecl → Run CheckedInductive
 check_inductive_at env calls d = do
-  forbid (has_twice (names_of d)) 34
-  forbid (any_taken env (names_of d)) 25
-  s ← some_or 30 (sort_at_end (end_of_products d.arity))
+  forbid (has_twice (names_of d)) DUPLICATE_NAME
+  forbid (any_taken env (names_of d)) NAME_TAKEN
+  s ← some_or NOT_AN_ARITY (sort_at_end (end_of_products d.arity))
   check_family d env calls s

@@ -1,5 +1,6 @@
 -- Inference of types, with units and the names used.
 use Rattle.std.specs.Prelude.{ℕ, zero, suc, ◌+◌, nat_le, nat_lt, List, [], ◌∷◌, length, Bool, true, ◌&&◌, Option, Some, None, if◌then◌else◌}
+use Rattle.base_core.specs.declared.refusal_codes.TheConstants.{UNIVERSE_TOO_LARGE, NOT_A_TYPE, NOT_A_FUNCTION, TYPE_MISMATCH, UNBOUND}
 use Rattle.base_core.specs.declared.refusals.Limit.TheVariants.{DepthLimit}
 use Rattle.core_term.specs.declared.sorts.Sort.{Sort}
 use Rattle.core_term.specs.declared.sorts.Sort.TheVariants.{PropSort, SetSort, TypeSort}
@@ -51,9 +52,9 @@ arrow domain codomain used = record { domain = domain; codomain = codomain; used
 -- what a type was reduced to must be a sort, and that must have a type
 abbrev pub must_be_sort : List ℕ → Tree → Run InferredSort
 must_be_sort used (Sorted s) = do
-  _ ← some_or 24 (type_of_sort s)
+  _ ← some_or UNIVERSE_TOO_LARGE (type_of_sort s)
   pure (inferred_sort s used)
-must_be_sort used _ = refuse 23
+must_be_sort used _ = refuse NOT_A_TYPE
 
 -- over the judgements that inference calls: weak head reduction, conversion and inference
 module _ (whnf : List Hyp → Tree → Run Tree) (conv : List Hyp → Mode → Tree → Tree → Run Bool) (infer : List Hyp → Tree → Run Inferred) where
@@ -75,7 +76,7 @@ module _ (whnf : List Hyp → Tree → Run Tree) (conv : List Hyp → Mode → T
   must_be_arrow ctx used (Prod n a b) = do
     s ← sort_of ctx (Prod n a b)
     pure (arrow a b (union used s.used))
-  must_be_arrow ctx used _ = refuse 21
+  must_be_arrow ctx used _ = refuse NOT_A_FUNCTION
 
   -- a type that is a product is the answer as it stands
   abbrev pub as_arrow : List Hyp → Tree → List ℕ → Run Arrow
@@ -91,20 +92,20 @@ module _ (whnf : List Hyp → Tree → Run Tree) (conv : List Hyp → Mode → T
     spend (compare_cost i.ty wanted)
     if same_tree i.ty wanted then pure i.used else (do
       fits ← conv ctx Below i.ty wanted
-      require fits 22
+      require fits TYPE_MISMATCH
       s ← sort_of ctx wanted
       pure (union i.used s.used))
 
   -- the table of inference, by the top of the term
   abbrev pub infer_by : List Slot → List Hyp → Tree → Run Inferred
   infer_by env ctx (Var i) = do
-    ty ← some_or 20 (type_of_variable ctx i)
+    ty ← some_or UNBOUND (type_of_variable ctx i)
     pure (inferred ty [])
   infer_by env ctx (Sorted s) = do
-    r ← some_or 24 (type_of_sort s)
+    r ← some_or UNIVERSE_TOO_LARGE (type_of_sort s)
     pure (inferred (Sorted r) [])
   infer_by env ctx (Constant c) = do
-    ty ← some_or 20 (type_of_global env c)
+    ty ← some_or UNBOUND (type_of_global env c)
     pure (inferred ty (c ∷ []))
   infer_by env ctx (Prod n a b) = do
     s ← sort_of ctx a
