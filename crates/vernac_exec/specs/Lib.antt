@@ -7,7 +7,6 @@ pub mod Exec
 pub mod Outline
 pub mod Laws
 pub mod ProverLaws
-pub mod Listed
 pub mod Calls
 pub mod Answers
 pub mod Soundness

@@ -2,7 +2,6 @@
 //! Today that is every command that needs no proof.
 #![tactic(auto)]
 
-mod axioms;
 mod commands;
 mod deed;
 mod diagnostics;

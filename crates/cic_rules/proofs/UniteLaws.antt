@@ -10,7 +10,7 @@ use Rattle.term_spine.specs.Globals.{has, IsAscending}
 use Rattle.term_spine.proofs.Places.{ascending_one, has_contained}
 use Rattle.cic_rules.specs.Infer.{union}
 use Rattle.cic_rules.specs.Scopes.{AreBefore}
-use Rattle.cic_kernel.specs.Inference.{HasEach}
+use Rattle.cic_rules.specs.Unions.{HasEach}
 use Rattle.cic_rules.proofs.ReachLaws.{InTwo, First, Second, merged_parts}
 use Rattle.cic_rules.proofs.UsedLaws.{names_union, union_first, union_second}
 

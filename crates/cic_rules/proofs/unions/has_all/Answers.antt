@@ -1,5 +1,5 @@
-use Rattle.cic_kernel.proofs.UniteLaws.{each_step, each_end}
-use Rattle.cic_kernel.proofs.names.has_all.Goals as goal
+use Rattle.cic_rules.proofs.UniteLaws.{each_step, each_end}
+use Rattle.cic_rules.proofs.unions.has_all.Goals as goal
 
 pub loop-place-init : goal.loop-place-init
 loop-place-init c = rw c.as_slice-place-items.ensures (λ h. h)
