@@ -1,7 +1,6 @@
 -- What the entries bring that an entry uses are its axioms.
-use Rattle.std.proofs.Common.{◌≡◌, ℕ, zero, suc, ◌+◌, ◌<◌, ◌≤◌, ◌==◌, List, [], ◌∷◌, ◌++◌, length, Bool, true, false, Option, Some, None, refl, sym, ◌∙◌, ap, subst, arith, inl, inr}
+use Rattle.std.proofs.Common.{◌≡◌, ℕ, zero, suc, ◌+◌, ◌<◌, ◌≤◌, ◌==◌, List, [], ◌∷◌, ◌++◌, length, get_or, Bool, true, false, Some, None, refl, sym, ◌∙◌, ap, subst, arith, inl, inr}
 use Rattle.std.specs.Prelude.{◌⊎◌, IsTrue, if◌then◌else◌, slice_get}
-use Rattle.std.proofs.lemmas.Bool.{cases_order}
 use Rattle.std.proofs.lemmas.Bool.Decides.{nat_tests}
 use Rattle.term_spine.specs.Globals.{has, IsAscending}
 use Rattle.term_spine.proofs.Places.{ascending_one}
@@ -81,8 +80,8 @@ module _ (env : List Slot) (before : UsesBefore env) where
   reached_there p q h = let found = (axioms_are_reached env before p q).0 h in (found.0, inr found.1)
 
   module _ (n : ℕ) where
-    own : (p : ℕ) → p < n → own_axioms env (slice_get (axioms_before env n) p) ≡ axioms env p
-    own p lt = ap (own_axioms env) (listed n p lt)
+    own : (p : ℕ) → p < n → own_axioms (slice_get (axioms_before env n) p) ≡ axioms env p
+    own p lt = ap own_axioms (listed n p lt)
 
     by_assumption : (b : Bool) (p q : ℕ) → is_assumption env p ≡ b →
         IsTrue (has (if b then union (p ∷ []) (axioms env p) else axioms env p) q) → Brings p q
@@ -149,7 +148,7 @@ module _ (env : List Slot) (before : UsesBefore env) where
         (subst IsAscending (sym (same_brought p lt.0)) (ascending_by (is_assumption env p) p)) (ascending ps lt.1)
 
   reaches_brought : (n q : ℕ) → IsTrue (is_assumption env q) → Reaches env n q → IsTrue (has (brought env (axioms_before env n) (used_at env n)) q)
-  reaches_brought n q a (Uses {q = q} used) = brought_all n (used_at env n) q q (before n) used (a, inl refl)
+  reaches_brought n q a (Uses used) = brought_all n (used_at env n) q q (before n) used (a, inl refl)
   reaches_brought n q a (UsesFurther {q = p} used further) = brought_all n (used_at env n) p q (before n) used (a, inr further)
 
   same_places : (n q : ℕ) → has (axioms env n) q ≡ has (brought env (axioms_before env n) (used_at env n)) q
@@ -173,32 +172,26 @@ beyond [] i le = refl
 beyond (x ∷ xs) zero le = absurd (omega (arith, le))
 beyond (x ∷ xs) (suc i) le = beyond xs i (omega (arith, le))
 
-module _ (env : List Slot) (is : IsEnvironment env) (place : ℕ) where
-  within_or_not : (place < length env) ⊎ (length env ≤ place)
-  within_or_not = elim (cases_order place (length env)) [
-    | inl same ↦ inr (omega (arith, same))
-    | inr apart ↦ elim apart [ inl less ↦ inl less | inr more ↦ inr (omega (arith, more)) ]
-  ]
+found_or : {A : Type 0} (xs : List A) (i : ℕ) (x other : A) → Some x ≡ slice_get xs i → get_or xs i other ≡ x
+found_or [] i x other e = cc
+found_or (y ∷ ys) zero x other e = cc
+found_or (y ∷ ys) (suc i) x other e = found_or ys i x other e
 
-  none_listed : length env ≤ place → slice_get (axioms_before env (length env)) place ≡ None
-  none_listed le =
-      beyond (axioms_before env (length env)) place (subst (λ n. n ≤ place) (sym (as_many env (entries_use_before env is) (length env))) le)
+module _ (env : List Slot) (is : IsEnvironment env) where
+  pub as_many_lists : (lists : List (List ℕ)) → lists ≡ axioms_before env (length env) → length lists ≡ length env
+  as_many_lists lists all = ap length all ∙ as_many env (entries_use_before env is) (length env)
 
-  none_used : length env ≤ place → used_at env place ≡ []
-  none_used le = rw (beyond env place le) refl
+  pub axioms_at : (lists : List (List ℕ)) (place : ℕ) → lists ≡ axioms_before env (length env) → place < length env →
+      Some (axioms env place) ≡ slice_get lists place
+  axioms_at lists place all within =
+      let known = listed env (entries_use_before env is) (length env) place within in sym (ap (λ l. slice_get l place) all ∙ known)
 
-  no_axioms : length env ≤ place → axioms env place ≡ []
-  no_axioms le = all_axioms env (entries_use_before env is) place ∙ ap (λ us. brought env (axioms_before env place) us) (none_used le)
+  pub no_axioms : (place : ℕ) → length env ≤ place → axioms env place ≡ []
+  no_axioms place past =
+      let none : used_at env place ≡ [] = rw (beyond env place past) refl in
+      all_axioms env (entries_use_before env is) place ∙ ap (λ us. brought env (axioms_before env place) us) none
 
-  pub axioms_found : (lists : List (List ℕ)) (found : List ℕ) → lists ≡ axioms_before env (length env) → Some found ≡ slice_get lists place →
-      found ≡ axioms env place
-  axioms_found lists found listing there = elim within_or_not [
-    | inl within ↦ let known = listed env (entries_use_before env is) (length env) place within in cc
-    | inr past ↦ absurd (let known = none_listed past in cc)
-  ]
-
-  pub axioms_none : (lists : List (List ℕ)) → lists ≡ axioms_before env (length env) → None ≡ slice_get lists place → axioms env place ≡ []
-  axioms_none lists listing there = elim within_or_not [
-    | inl within ↦ absurd (let known = listed env (entries_use_before env is) (length env) place within in cc)
-    | inr past ↦ no_axioms past
-  ]
+  pub axioms_shown : (lists : List (List ℕ)) (place : ℕ) (own shown : List ℕ) → lists ≡ axioms_before env (length env) → place < length env →
+      own ≡ get_or lists place own → shown ≡ own → shown ≡ axioms env place
+  axioms_shown lists place own shown all within at_place same =
+      same ∙ at_place ∙ found_or lists place (axioms env place) own (axioms_at lists place all within)

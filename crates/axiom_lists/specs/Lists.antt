@@ -4,15 +4,15 @@ use Rattle.cic_rules.specs.declared.env.Slot.{Slot}
 use Rattle.cic_rules.specs.Grounded.{is_assumption, axioms}
 use Rattle.cic_rules.specs.Infer.{union}
 
+abbrev pub own_axioms : Option (List ℕ) → List ℕ
+own_axioms None = []
+own_axioms (Some places) = places
+
 module _ (env : List Slot) where
   -- the axioms of each of so many entries, by place
   abbrev pub axioms_before : ℕ → List (List ℕ)
   axioms_before zero = []
   axioms_before (suc n) = axioms_before n ++ (axioms env n ∷ [])
-
-  abbrev pub own_axioms : Option (List ℕ) → List ℕ
-  own_axioms None = []
-  own_axioms (Some places) = places
 
   -- what an entry brings to those that use it: its axioms, and itself where it is one
   abbrev pub brought_by : List (List ℕ) → ℕ → List ℕ

@@ -23,16 +23,16 @@ pub fn axiom_lists(alloc: Global, env: &GlobalEnv) -> Result<Vec<AxiomList>, NoM
 }
 
 /// The places of the axioms that the global at a place rests on, ascending, each once.
-#[tactic(auto, using(crate::proofs::BroughtLaws::axioms_found, crate::proofs::BroughtLaws::axioms_none))]
+#[tactic(auto, using(crate::proofs::BroughtLaws::as_many_lists, crate::proofs::BroughtLaws::no_axioms))]
 pub fn axioms_of<'a>(env: &GlobalEnv, lists: &'a [AxiomList], place: u32) -> &'a [u32]
     requires { lists.now ≡ axioms_before env.now (length env.now) }
     ensures places { result.now ≡ axioms env.now place }
     ensures environment { IsEnvironment env.now }
 {
-    match lists.get(place as usize) {
-        Some(list) => list.as_slice(),
-        None => &[],
+    if place >= env.len() {
+        return &[];
     }
+    lists[place as usize].as_slice()
 }
 
 /// The axioms of one global, by those of the globals before it.
