@@ -1,11 +1,12 @@
 //! A constructor for a goal whose type is inductive.
-ghost use Rattle.std.specs.Prelude.{◌≡◌, ◌≤◌, IfOk};
+ghost use Rattle.std.specs.Prelude.{◌≡◌, ◌-◌, ◌≤◌, length, IfOk};
 ghost use Rattle.base_core.specs.Answers.{Gives};
 ghost use Rattle.core_term.specs.Tree.{depth_of};
+ghost use Rattle.term_spine.specs.Spine.{arguments_of};
 ghost use Rattle.cic_rules.specs.Fuel.{left, IsSpentOf};
 ghost use Rattle.cic_rules.specs.Judges.{MayJudge, IsTermIn, Meets};
 ghost use Rattle.cic_rules.specs.Steps.{answer_of};
-ghost use Rattle.move_basic.specs.Constructors.{count_arguments, at_params, constructor_term};
+ghost use Rattle.move_basic.specs.Constructors.{sized, at_params, constructor_term};
 ghost use Rattle.proof_state.specs.Scopes.{IsSketchIn};
 ghost use Rattle.move_basic.specs.Calls.{construct_with};
 
@@ -77,15 +78,27 @@ fn constructor_term(
 }
 
 /// A global applied to the first of the term's arguments, so many.
+#[tactic(auto, using(crate::proofs::Parameters::all_kept, crate::proofs::Parameters::last_dropped))]
 fn at_params(alloc: Global, params: usize, place: u32, t: &Term) -> Result<Term, Stop>
-    ensures { Gives result (answer_of (at_params params place t.now)) }
+    ensures { Gives result (answer_of (sized (at_params params place t.now))) }
+{
+    let count = count_arguments(t) as usize;
+    if count <= params {
+        return at_all_but(alloc, 0, place, t);
+    }
+    at_all_but(alloc, count - params, place, t)
+}
+
+/// A global applied to all but the last of the term's arguments, so many.
+fn at_all_but(alloc: Global, last: usize, place: u32, t: &Term) -> Result<Term, Stop>
+    ensures { Gives result (answer_of (sized (at_params (length (arguments_of t.now) - last) place t.now))) }
 {
     match t.node() {
         Node::App { function, argument } => {
-            if count_arguments(function) as usize >= params {
-                return at_params(alloc, params, place, function);
+            if last > 0 {
+                return at_all_but(alloc, last - 1, place, function);
             }
-            match at_params(alloc, params, place, function) {
+            match at_all_but(alloc, 0, place, function) {
                 Ok(applied) => {
                     let argument = argument.share()?;
                     Ok(Term::app(alloc, applied, argument)?)
@@ -103,7 +116,7 @@ fn at_params(alloc: Global, params: usize, place: u32, t: &Term) -> Result<Term,
 }
 
 fn count_arguments(t: &Term) -> u32
-    ensures count { result ≡ count_arguments t.now }
+    ensures count { result ≡ length (arguments_of t.now) }
     ensures few { result ≤ depth_of t.now }
 {
     let _depth = t.depth();
