@@ -6,7 +6,7 @@ use Rattle.sentence_split.proofs.Lawful.{sentences_split}
 use Rattle.sentence_split.proofs.Cuts.{spans_of}
 use Rattle.std.proofs.lemmas.Grind.{common_steps}
 use Rattle.sentence_split.proofs.Passing.{gap_passed, sentence_passed, shown_rest}
-use Rattle.sentence_split.proofs.splitting.split.Goals as goal
+use Rattle.sentence_split.proofs.splitting.split_behind.Goals as goal
 
 pub loop-at-preserved-in-Gap : goal.loop-at-preserved-in-Gap
 loop-at-preserved-in-Gap c =
