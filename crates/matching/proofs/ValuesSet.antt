@@ -1,6 +1,6 @@
 -- A match leaves no variable of its pattern unset.
 use Rattle.std.specs.Prelude.{if◌then◌else◌, nat_lt, slice_get, slice_set, ◌||◌, ◌≤◌}
-use Rattle.std.proofs.Common.{◌≡◌, ℕ, zero, suc, ◌+◌, ◌-◌, List, [], ◌∷◌, length, Bool, true, false, Option, Some, None, IfSome, refl, sym, ◌∙◌, ap, arith}
+use Rattle.std.proofs.Common.{◌≡◌, ℕ, zero, suc, ◌+◌, ◌-◌, List, [], ◌∷◌, length, Bool, true, false, Option, Some, None, IfSome, refl, ap, arith}
 use Rattle.std.proofs.lemmas.Option.{slice_get_past}
 use Rattle.core_term.specs.Tree.{Tree, Var, Sorted, Constant, Prod, Lam, LetIn, App}
 use Rattle.cic_rules.specs.declared.context.Hyp.{Hyp}
@@ -8,11 +8,11 @@ use Rattle.cic_rules.specs.declared.env.Slot.{Slot}
 use Rattle.cic_rules.specs.declared.judge.Mode.TheVariants.{Same}
 use Rattle.cic_rules.specs.Contexts.{plain_hyp, defined_hyp}
 use Rattle.cic_rules.specs.Convert.{conv_at}
-use Rattle.cic_rules.specs.Runs.{Run, pure, spend, check_size}
+use Rattle.cic_rules.specs.Runs.{Run, spend, check_size}
 use Rattle.cic_rules.specs.Laws.{Tells}
 use Rattle.cic_rules.proofs.TellsLaws.{tells_pure, tells_stop, tells_bind, tells_step, tells_if, tells_within}
 use Rattle.matching.specs.Lowering.{without_binders}
-use Rattle.matching.specs.Patterns.{Values, is_open, is_unset, has_unset, fill}
+use Rattle.matching.specs.Patterns.{Values, is_open, has_unset, fill}
 use Rattle.matching.specs.Match.{set_value, if_matched, match_under, match_binder, match_nodes, match_filled, match_at}
 use Rattle.matching.specs.Laws.{Extends, MatchesSettle}
 use Rattle.matching.proofs.ValuesKept.{same_values, more_values, set_extends, unset_open, any}
@@ -51,24 +51,27 @@ variable_set : (values found : Values) (at : ℕ) (b : Bool) → Extends values 
 variable_set values found at true more e = refl
 variable_set values found at false more e = set_by values found at (slice_get values at) more refl e
 
-still_set : (values found : Values) (p : Tree) (binders : ℕ) → Extends values found → has_unset values p binders ≡ false → has_unset found p binders ≡ false
+both_still : (a b c d : Bool) → (a ≡ false → c ≡ false) → (b ≡ false → d ≡ false) → (a || b) ≡ false → (c || d) ≡ false
+both_still a b c d one two e = both_false c d (one (left_false a b e)) (two (right_false a b e))
 
-still_two : (values found : Values) (p q : Tree) (b c : ℕ) → Extends values found → (has_unset values p b || has_unset values q c) ≡ false →
-    (has_unset found p b || has_unset found q c) ≡ false
+still_set : (values found : Values) (p : Tree) (binders : ℕ) → Extends values found → has_unset values p binders ≡ false → has_unset found p binders ≡ false
 still_set values found (Var i) binders more e = variable_set values found (i - binders) (nat_lt i binders) more e
 still_set values found (Sorted s) binders more e = refl
 still_set values found (Constant c) binders more e = refl
-still_set values found (Prod n a b) binders more e = still_two values found a b binders (binders + 1) more e
-still_set values found (Lam n a b) binders more e = still_two values found a b binders (binders + 1) more e
+still_set values found (Prod n a b) binders more e =
+    both_still (has_unset values a binders) (has_unset values b (binders + 1)) (has_unset found a binders) (has_unset found b (binders + 1))
+    (still_set values found a binders more) (still_set values found b (binders + 1) more) e
+still_set values found (Lam n a b) binders more e =
+    both_still (has_unset values a binders) (has_unset values b (binders + 1)) (has_unset found a binders) (has_unset found b (binders + 1))
+    (still_set values found a binders more) (still_set values found b (binders + 1) more) e
 still_set values found (LetIn n a t b) binders more e =
-    both_false (has_unset found a binders) (has_unset found t binders || has_unset found b (binders + 1))
-    (still_set values found a binders more (left_false (has_unset values a binders) (has_unset values t binders || has_unset values b (binders + 1)) e))
-    (still_two values found t b binders (binders + 1) more (right_false (has_unset values a binders) (has_unset values t binders || has_unset values b (binders + 1)) e))
-still_set values found (App f a) binders more e = still_two values found f a binders binders more e
-still_two values found p q b c more e =
-    both_false (has_unset found p b) (has_unset found q c)
-    (still_set values found p b more (left_false (has_unset values p b) (has_unset values q c) e))
-    (still_set values found q c more (right_false (has_unset values p b) (has_unset values q c) e))
+    both_still (has_unset values a binders) (has_unset values t binders || has_unset values b (binders + 1)) (has_unset found a binders)
+    (has_unset found t binders || has_unset found b (binders + 1)) (still_set values found a binders more)
+    (both_still (has_unset values t binders) (has_unset values b (binders + 1)) (has_unset found t binders) (has_unset found b (binders + 1))
+    (still_set values found t binders more) (still_set values found b (binders + 1) more)) e
+still_set values found (App f a) binders more e =
+    both_still (has_unset values f binders) (has_unset values a binders) (has_unset found f binders) (has_unset found a binders)
+    (still_set values found f binders more) (still_set values found a binders more) e
 
 -- what is found extends the values and has a property, if anything is found
 abbrev Found : Values → (Values → Type 0) → Option Values → Type 0
@@ -85,7 +88,7 @@ same_found values Q R (Some vs) by f = (f.0, by vs f.1)
 more_found : (values found : Values) (p : Tree) (b : ℕ) (Q : Values → Type 0) (last : Option Values) → Extends values found → IsSet p b found →
     Found found Q last → Found values (λ vs. IsSet p b vs × Q vs) last
 more_found values found p b Q None more set rest = tt
-more_found values found p b Q (Some last) more set rest = (more_values values found last more rest.0, still_set found last p b rest.0 set, rest.1)
+more_found values found p b Q (Some last) more set rest = (more_values values found last more rest.0, (still_set found last p b rest.0 set, rest.1))
 
 tells_rest : (values : Values) (p : Tree) (b : ℕ) (Q : Values → Type 0) (found : Option Values) (rest : Values → Run (Option Values)) →
     Found values (IsSet p b) found → ((vs : Values) → Tells (rest vs) (Found vs Q)) → Tells (if_matched found rest) (Found values (λ vs. IsSet p b vs × Q vs))
@@ -138,7 +141,7 @@ module _ (inner : List Hyp → ℕ → Tree → Tree → Values → Run (Option 
   set_nodes ctx binders (LetIn n p v q) (LetIn m t w u) values unset =
       tells_as _ values (λ vs. IsSet p binders vs × (IsSet v binders vs × IsSet q (binders + 1) vs)) (IsSet (LetIn n p v q) binders)
       (λ vs set. both_false (has_unset vs p binders) (has_unset vs v binders || has_unset vs q (binders + 1)) set.0
-      (both_false (has_unset vs v binders) (has_unset vs q (binders + 1)) set.1 set.2))
+      (both_false (has_unset vs v binders) (has_unset vs q (binders + 1)) set.1.0 set.1.1))
       (tells_bind (inners ctx binders p t values) (λ found first.
       tells_rest values p binders (λ vs. IsSet v binders vs × IsSet q (binders + 1) vs) found (match_binder inner ctx (defined_hyp m t w) binders v w q u) first
       (set_binder ctx (defined_hyp m t w) binders v w q u)))

@@ -1,5 +1,5 @@
 -- A sketch that was found is given for its goal.
-use Rattle.std.specs.Prelude.{◌≡◌, ℕ, List, Result, Ok, Err, IfOk, refl}
+use Rattle.std.specs.Prelude.{ℕ, List, Result, Ok, Err, IfOk, refl}
 use Rattle.std.proofs.Common.{sym}
 use Rattle.base_core.specs.declared.refusals.Stop.{Stop}
 use Rattle.base_core.specs.declared.refusals.Stop.TheVariants.{Refused, Out, NoMem}
@@ -8,7 +8,6 @@ use Rattle.cic_rules.specs.declared.env.Slot.{Slot}
 use Rattle.cic_rules.specs.Judges.{Meets}
 use Rattle.cic_rules.specs.Runs.{Run}
 use Rattle.proof_state.specs.declared.goals.Goal.{Goal}
-use Rattle.proof_state.specs.declared.state.Filling.{Filling}
 use Rattle.proof_state.specs.Partial.{Partial}
 use Rattle.proof_state.specs.Scopes.{IsSketchIn, IsFillingIn}
 use Rattle.move_basic.specs.Moves.{given, solved}
