@@ -18,11 +18,11 @@ impl ProverState {
         ensures { IfOk result (λ outline. outline ≡ outline_of self.now) }
     {
         let mut outline = OutlineList::new(alloc);
-        for i in 0..self.outline.len() {
-            let Some(row) = self.outline.get(i) else {
+        for i in 0..self.state.outline.len() {
+            let Some(row) = self.state.outline.get(i) else {
                 unreachable!()
             };
-            outline.push(item(alloc, &self.env, row)?)?;
+            outline.push(item(alloc, &self.state.env, row)?)?;
         }
         Ok(outline)
     }
