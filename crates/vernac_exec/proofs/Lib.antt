@@ -12,3 +12,4 @@ pub mod FamilyLaws
 pub mod NameLaws
 pub mod ExecLaws
 pub mod SoundStates
+pub mod ProofSamples

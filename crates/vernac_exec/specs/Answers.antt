@@ -8,11 +8,11 @@ use Rattle.prover_iface.specs.declared.prover.Outcome.{Outcome}
 use Rattle.prover_iface.specs.declared.prover.Outcome.TheVariants.{Done, Interrupted}
 use Rattle.prover_iface.specs.Sentences.{Sentence}
 use Rattle.vernac_exec.specs.declared.deed.Deed.{Deed}
-use Rattle.vernac_exec.specs.declared.state.ProverState.{ProverState}
+use Rattle.vernac_exec.specs.declared.state.State.{State}
 use Rattle.vernac_exec.specs.Exec.{cost, after, diagnosed}
 
 -- it is done exactly where the cost is at most the units, and then gives that state, those diagnostics and that cost
-abbrev pub AnswersSentence : ProverState → Sentence → ℕ → Outcome ProverState → Type 0
+abbrev pub AnswersSentence : State → Sentence → ℕ → Outcome State → Type 0
 AnswersSentence m s units (Done state diags spent) =
     (cost m s ≤ units) × (state ≡ after m s) × (diags ≡ diagnosed m s) × (spent ≡ cost m s)
 AnswersSentence m s units Interrupted = units < cost m s

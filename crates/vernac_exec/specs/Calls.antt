@@ -1,5 +1,5 @@
 -- Commands and sentences on some fuel, for the calls that run them.
-use Rattle.std.specs.Prelude.{ℕ, List, [], length, Option, Result, Err, if◌then◌else◌}
+use Rattle.std.specs.Prelude.{ℕ, List, [], length, Bool, Option, Some, Result, Err, if◌then◌else◌}
 use Rattle.base_core.specs.declared.kind.Kind.{Kind}
 use Rattle.base_core.specs.declared.refusals.Place.TheVariants.{Whole}
 use Rattle.base_core.specs.declared.refusals.Stop.{Stop}
@@ -13,14 +13,14 @@ use Rattle.coq_syntax.specs.declared.tree.Group.{Group}
 use Rattle.coq_syntax.specs.CommandTrees.{Command}
 use Rattle.coq_syntax.specs.Forms.{constructors_of}
 use Rattle.coq_syntax.specs.Nodes.{groups_of, annotation_of}
-use Rattle.coq_syntax.specs.Tokens.{Tokens}
+use Rattle.coq_syntax.specs.MoveTrees.{Move}
 use Rattle.coq_syntax.specs.Trees.{Term}
-use Rattle.move_parser.specs.Sentences.{read_sentence}
 use Rattle.core_term.specs.Tree.{Tree, is_small}
 use Rattle.cic_rules.specs.declared.context.Hyp.{Hyp}
 use Rattle.cic_rules.specs.declared.decls.Ctor.{Ctor}
 use Rattle.cic_rules.specs.declared.decls.Decl.{Decl}
-use Rattle.cic_rules.specs.declared.decls.Decl.TheVariants.{Induct}
+use Rattle.cic_rules.specs.declared.decls.Decl.TheVariants.{Define, Admit, Induct}
+use Rattle.cic_rules.specs.Declare.{declare_at}
 use Rattle.cic_rules.specs.declared.env.Slot.{Slot}
 use Rattle.cic_rules.specs.Eliminators.{type_of_decl}
 use Rattle.cic_rules.specs.Environments.{entered}
@@ -28,13 +28,22 @@ use Rattle.cic_rules.specs.Inductive.{ctor_names, assumed_type}
 use Rattle.cic_rules.specs.Judges.{Meets}
 use Rattle.cic_rules.specs.Fuel.{FuelState, left, calls_left}
 use Rattle.cic_rules.specs.Runs.{Ran, Run, ◌>>=◌, give, pure}
+use Rattle.cic_rules.specs.Steps.{take_step}
 use Rattle.elaborator.specs.declared.binders.Binding.{Binding}
+use Rattle.elaborator.specs.declared.binders.Binding.TheVariants.{Product}
+use Rattle.elaborator.specs.Parts.{closed}
 use Rattle.elaborator.specs.Constructors.{constructor_type}
 use Rattle.elaborator.specs.Elab.{elab, open_groups}
+use Rattle.proof_state.specs.declared.goals.Goal.{Goal}
+use Rattle.proof_state.specs.Steps.{started, bounded, closed as whole_proof}
 use Rattle.vernac_exec.specs.declared.deed.Deed.{Deed}
+use Rattle.vernac_exec.specs.declared.deed.Deed.TheVariants.{Begins}
+use Rattle.vernac_exec.specs.declared.reading.Reading.{Reading}
+use Rattle.vernac_exec.specs.declared.state.OpenProof.{OpenProof}
 use Rattle.vernac_exec.specs.Families.{ctor, family, named_ctors, elab_constructors}
-use Rattle.vernac_exec.specs.Commands.{declare_as, assume, elab_over, elab_annotation, define, elab_family, induct, check, obey}
-use Rattle.vernac_exec.specs.Sentences.{obey_read, sentence_run}
+use Rattle.vernac_exec.specs.Commands.{declare_as, assume, elab_over, elab_annotation, define, elab_family, induct, check, theorem, named_hyps, begin_proof, obey}
+use Rattle.vernac_exec.specs.Proofs.{prove_at, prove, end_proof, obey_inside}
+use Rattle.vernac_exec.specs.Sentences.{run_outside, run_inside, run_reading, sentence_run}
 
 -- a refusal at the whole sentence
 abbrev pub refusal_of : ℕ → Stop
@@ -111,20 +120,63 @@ module _ (env : List Slot) where
   abbrev pub induct_new_with : List ℕ → List Group → Term → List Constructor → FuelState → Ran Deed
   induct_new_with name gs s cs f = induct_new (calls_left f) name gs s cs (left f)
 
-  abbrev pub check_with : Term → FuelState → Ran Deed
-  check_with s f = check env (calls_left f) s (left f)
+  abbrev pub check_with : List Hyp → Term → FuelState → Ran Deed
+  check_with ctx s f = check env (calls_left f) ctx s (left f)
+
+  abbrev pub begin_with : List ℕ → List Group → Term → FuelState → Ran Deed
+  begin_with name gs s f = begin_proof env (calls_left f) name (groups_of gs) s (left f)
+
+  -- a theorem whose statement is elaborated over these hypotheses
+  abbrev pub stated : ℕ → List ℕ → List Hyp → Tree → Run Deed
+  stated calls name inner statement = do
+    ty ← take_step (closed Product inner statement)
+    admitted ← declare_at env calls (Admit name ty)
+    pure (Begins (theorem name ty admitted) (started (named_hyps env inner) statement))
+
+  abbrev pub stated_with : List ℕ → List Hyp → Tree → FuelState → Ran Deed
+  stated_with name inner statement f = stated (calls_left f) name inner statement (left f)
 
   abbrev pub obey_with : Command → FuelState → Ran Deed
   obey_with c f = obey env (calls_left f) c (left f)
 
-  -- the tokens of a sentence are read, and what they are is obeyed
-  abbrev pub tokens_run : ℕ → Tokens → Run Deed
-  tokens_run calls tokens = do
-    s ← give (read_sentence tokens)
-    obey_read env calls s
+  abbrev pub prove_at_with : OpenProof → ℕ → Goal → Move → FuelState → Ran Deed
+  prove_at_with o n g m f = prove_at env (calls_left f) o n g m (left f)
 
-  abbrev pub tokens_with : Tokens → FuelState → Ran Deed
-  tokens_with tokens f = tokens_run (calls_left f) tokens (left f)
+  abbrev pub prove_with : OpenProof → Move → FuelState → Ran Deed
+  prove_with o m f = prove env (calls_left f) o m (left f)
 
-  abbrev pub sentence_with : Kind → List ℕ → FuelState → Ran Deed
-  sentence_with kind text f = sentence_run env (calls_left f) kind text (left f)
+  abbrev pub end_with : Bool → OpenProof → FuelState → Ran Deed
+  end_with opaque o f = end_proof env (calls_left f) opaque o (left f)
+
+  -- a proof without goals goes to the kernel
+  abbrev pub closed_run : ℕ → Bool → OpenProof → Run Deed
+  closed_run calls opaque o = do
+    t ← give (bounded (whole_proof o.proof))
+    declare_as env calls item.Theorem (Define o.theorem.name (Some o.theorem.ty) t opaque)
+
+  abbrev pub closed_with : Bool → OpenProof → FuelState → Ran Deed
+  closed_with opaque o f = closed_run (calls_left f) opaque o (left f)
+
+  abbrev pub inside_with : OpenProof → Command → FuelState → Ran Deed
+  inside_with o c f = obey_inside env (calls_left f) o c (left f)
+
+  abbrev pub run_outside_with : Reading → FuelState → Ran Deed
+  run_outside_with r f = run_outside env (calls_left f) r (left f)
+
+  abbrev pub run_inside_with : OpenProof → Reading → FuelState → Ran Deed
+  run_inside_with o r f = run_inside env (calls_left f) o r (left f)
+
+  abbrev pub run_reading_with : Option OpenProof → Reading → FuelState → Ran Deed
+  run_reading_with opened r f = run_reading env (calls_left f) opened r (left f)
+
+  -- a sentence that was read so, or refused
+  abbrev pub run_read : ℕ → Option OpenProof → Result Reading Stop → Run Deed
+  run_read calls opened reading = do
+    r ← give reading
+    run_reading env calls opened r
+
+  abbrev pub run_read_with : Option OpenProof → Result Reading Stop → FuelState → Ran Deed
+  run_read_with opened reading f = run_read (calls_left f) opened reading (left f)
+
+  abbrev pub sentence_with : Option OpenProof → Kind → List ℕ → FuelState → Ran Deed
+  sentence_with opened kind text f = sentence_run env (calls_left f) opened kind text (left f)

@@ -6,21 +6,22 @@ use Rattle.prover_iface.specs.Sentences.{Sentence}
 use Rattle.cic_rules.specs.Fuel.{NESTING_LIMIT}
 use Rattle.cic_rules.specs.Runs.{Ran}
 use Rattle.vernac_exec.specs.declared.deed.Deed.{Deed}
-use Rattle.vernac_exec.specs.declared.state.ProverState.{ProverState}
+use Rattle.vernac_exec.specs.declared.state.State.{State}
+use Rattle.vernac_exec.specs.Readings.{reading}
 use Rattle.vernac_exec.specs.Sentences.{sentence_run}
 use Rattle.vernac_exec.specs.States.{behind}
 use Rattle.vernac_exec.specs.Diagnostics.{told}
 
 -- a sentence with all the units that one has
-abbrev pub whole_run : ProverState → Sentence → Ran Deed
-whole_run m s = sentence_run m.env NESTING_LIMIT s.kind s.text UNIT_LIMIT
+abbrev pub whole_run : State → Sentence → Ran Deed
+whole_run m s = sentence_run m.env NESTING_LIMIT m.opened s.kind s.text UNIT_LIMIT
 
 -- one unit for the sentence, and those that it spends
-abbrev pub cost : ProverState → Sentence → ℕ
+abbrev pub cost : State → Sentence → ℕ
 cost m s = 1 + (UNIT_LIMIT - (whole_run m s).left)
 
-abbrev pub after : ProverState → Sentence → ProverState
-after m s = behind m (whole_run m s).answer
+abbrev pub after : State → Sentence → State
+after m s = behind m (reading s.kind s.text) (whole_run m s).answer
 
-abbrev pub diagnosed : ProverState → Sentence → List RelDiag
+abbrev pub diagnosed : State → Sentence → List RelDiag
 diagnosed m s = told s.text (whole_run m s).answer

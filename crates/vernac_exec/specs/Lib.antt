@@ -1,10 +1,14 @@
 pub mod Families
+pub mod Readings
 pub mod Commands
+pub mod Proofs
 pub mod Sentences
 pub mod States
+pub mod Standing
 pub mod Diagnostics
 pub mod Exec
 pub mod Outline
+pub mod Views
 pub mod Laws
 pub mod ProverLaws
 pub mod Calls

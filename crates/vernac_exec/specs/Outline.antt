@@ -7,7 +7,7 @@ use Rattle.cic_rules.specs.Environments.{type_of_global}
 use Rattle.cic_rules.specs.Grounded.{axioms}
 use Rattle.term_print.specs.Show.{printed, global_name, global_names}
 use Rattle.vernac_exec.specs.declared.state.Row.{Row}
-use Rattle.vernac_exec.specs.declared.state.ProverState.{ProverState}
+use Rattle.vernac_exec.specs.declared.state.State.{State}
 
 -- a type without hypotheses, as it is printed; a place without a global has none
 abbrev pub statement_text : List Slot → Option Tree → List ℕ
@@ -25,5 +25,5 @@ item env row = record {
   last = row.last;
 }
 
-abbrev pub outline_of : ProverState → List OutlineItem
+abbrev pub outline_of : State → List OutlineItem
 outline_of m = map (item m.env) m.outline

@@ -1,15 +1,17 @@
-//! The commands that need no proof, each as its run says: names first, then elaboration from left to
-//! right, then the kernel.
+//! The commands where no proof is under way, each as its run says: names first, then elaboration from
+//! left to right, then the kernel.
 ghost use Rattle.std.specs.Prelude.{◌≡◌, IfOk};
+ghost use Rattle.cic_rules.specs.Contexts.{AreParams};
 ghost use Rattle.cic_rules.specs.Fuel.{IsSpentOf};
-ghost use Rattle.cic_rules.specs.Judges.{MayJudge};
-ghost use Rattle.vernac_exec.specs.Commands.{judgement_text};
-ghost use Rattle.vernac_exec.specs.Calls.{Does, assume_with, elab_over_with, annotation_with, define_with, check_with, obey_with};
+ghost use Rattle.cic_rules.specs.Judges.{MayJudge, IsTermIn};
+ghost use Rattle.vernac_exec.specs.Commands.{judgement_text, named_hyps};
+ghost use Rattle.vernac_exec.specs.Standing.{IsDeedIn};
+ghost use Rattle.vernac_exec.specs.Calls.{Does, assume_with, elab_over_with, annotation_with, define_with, check_with, begin_with, stated_with, obey_with};
 
 use crate::deed::Deed;
 use crate::entering::{close_over, declare_as, refusal};
 use crate::families::induct;
-use base_core::refusal_codes::{NAME_TAKEN, NO_PROOF, NOT_BUILT};
+use base_core::refusal_codes::{NAME_TAKEN, NO_PROOF};
 use base_core::{NoMem, Stop, Text};
 use cic_rules::{Context, Decl, Declares, Fuel, GlobalEnv, Judge};
 use coq_syntax::{Annotation, Command, CommandForm, Group, SurfaceTerm};
@@ -29,6 +31,7 @@ fn assume<D: Declares>(
     fuel: &mut Fuel,
 ) -> Result<Deed, Stop>
     ensures answer { Does result fuel.old fuel.new (assume_with env.now name.now ty.now) }
+    ensures deed { IfOk result (IsDeedIn env.now) }
     ensures kept { IsSpentOf fuel.old fuel.new }
 {
     if env.place_of(name).is_some() {
@@ -93,6 +96,7 @@ fn define<D: Declares>(
     fuel: &mut Fuel,
 ) -> Result<Deed, Stop>
     ensures answer { Does result fuel.old fuel.new (define_with env.now name.now groups.now annotation.now value.now) }
+    ensures deed { IfOk result (IsDeedIn env.now) }
     ensures kept { IsSpentOf fuel.old fuel.new }
 {
     if env.place_of(name).is_some() {
@@ -112,38 +116,91 @@ fn define<D: Declares>(
     declare_as(judge, alloc, env, ItemKind::Definition, &decl, fuel)
 }
 
-/// `Check`.
-fn check<J: Judge>(
+/// `Check`, in a context.
+pub(crate) fn check<J: Judge>(
     judge: &J,
     alloc: Global,
     env: &GlobalEnv,
+    ctx: &Context,
     s: &SurfaceTerm,
     fuel: &mut Fuel,
 ) -> Result<Deed, Stop>
-    ensures answer { Does result fuel.old fuel.new (check_with env.now s.now) }
+    requires { MayJudge env.now ctx.now }
+    ensures answer { Does result fuel.old fuel.new (check_with env.now ctx.now s.now) }
+    ensures deed { IfOk result (IsDeedIn env.now) }
     ensures kept { IsSpentOf fuel.old fuel.new }
 {
-    let ctx = Context::empty();
-    let t = elab(judge, alloc, env, &ctx, s, fuel)?;
-    let found = judge.infer(alloc, env, &ctx, &t, fuel)?;
-    let text = judgement_text(alloc, env, &t, &found.ty)?;
+    let t = elab(judge, alloc, env, ctx, s, fuel)?;
+    let found = judge.infer(alloc, env, ctx, &t, fuel)?;
+    let text = judgement_text(alloc, env, ctx, &t, &found.ty)?;
     Ok(Deed::Answers(text))
 }
 
 /// A term and its type.
-fn judgement_text(alloc: Global, env: &GlobalEnv, t: &Term, ty: &Term) -> Result<Text, NoMem>
-    ensures { IfOk result (λ text. text ≡ judgement_text env.now t.now ty.now) }
+fn judgement_text(
+    alloc: Global,
+    env: &GlobalEnv,
+    ctx: &Context,
+    t: &Term,
+    ty: &Term,
+) -> Result<Text, NoMem>
+    ensures { IfOk result (λ text. text ≡ judgement_text env.now ctx.now t.now ty.now) }
 {
-    let ctx = Context::empty();
-    let term = print_term(alloc, env, &ctx, t)?;
-    let ty = print_term(alloc, env, &ctx, ty)?;
+    let term = print_term(alloc, env, ctx, t)?;
+    let ty = print_term(alloc, env, ctx, ty)?;
     let mut text = String::from_str(alloc, term.as_str())?;
     text.push_str(" : ")?;
     text.push_str(ty.as_str())?;
     Text::from_string(alloc, text)
 }
 
-/// A command where no proof is open.
+/// The hypotheses that a proof begins with: each `_` has its automatic name.
+fn named_hyps(alloc: Global, env: &GlobalEnv, inner: &Context) -> Result<Context, NoMem>
+    requires { AreParams inner.now }
+    ensures hyps { IfOk result (λ hyps. hyps ≡ named_hyps env.now inner.now) }
+    ensures plain { IfOk result AreParams }
+{
+    Err(NoMem)
+}
+
+/// A theorem whose statement is elaborated over these hypotheses.
+fn stated<D: Declares>(
+    judge: &D,
+    alloc: Global,
+    env: &GlobalEnv,
+    name: &Text,
+    inner: &Context,
+    statement: Term,
+    fuel: &mut Fuel,
+) -> Result<Deed, Stop>
+    requires judged { MayJudge env.now inner.now }
+    requires plain { AreParams inner.now }
+    requires statement { IsTermIn env.now inner.now statement }
+    ensures answer { Does result fuel.old fuel.new (stated_with env.now name.now inner.now statement) }
+    ensures deed { IfOk result (IsDeedIn env.now) }
+    ensures kept { IsSpentOf fuel.old fuel.new }
+{
+    Err(Stop::NoMem)
+}
+
+/// `Theorem` or `Lemma`.
+fn begin_proof<D: Declares>(
+    judge: &D,
+    alloc: Global,
+    env: &GlobalEnv,
+    name: &Text,
+    groups: &[Group],
+    ty: &SurfaceTerm,
+    fuel: &mut Fuel,
+) -> Result<Deed, Stop>
+    ensures answer { Does result fuel.old fuel.new (begin_with env.now name.now groups.now ty.now) }
+    ensures deed { IfOk result (IsDeedIn env.now) }
+    ensures kept { IsSpentOf fuel.old fuel.new }
+{
+    Err(Stop::NoMem)
+}
+
+/// A command where no proof is under way.
 #[tactic(auto, unfolding(crate::specs::Commands::obey))]
 pub(crate) fn obey<D: Declares>(
     judge: &D,
@@ -153,6 +210,7 @@ pub(crate) fn obey<D: Declares>(
     fuel: &mut Fuel,
 ) -> Result<Deed, Stop>
     ensures answer { Does result fuel.old fuel.new (obey_with env.now command.now) }
+    ensures deed { IfOk result (IsDeedIn env.now) }
     ensures kept { IsSpentOf fuel.old fuel.new }
 {
     match command.form() {
@@ -173,8 +231,12 @@ pub(crate) fn obey<D: Declares>(
             body,
             fuel,
         ),
-        // Proofs are not built yet.
-        CommandForm::State { .. } => Err(refusal(NOT_BUILT)),
+        CommandForm::State {
+            name,
+            groups,
+            ty,
+            ..
+        } => begin_proof(judge, alloc, env, &name.text, groups.as_slice(), ty, fuel),
         CommandForm::Inductive {
             name,
             groups,
@@ -191,7 +253,10 @@ pub(crate) fn obey<D: Declares>(
             constructors.as_slice(),
             fuel,
         ),
-        CommandForm::Check { term, .. } => check(judge, alloc, env, term, fuel),
+        CommandForm::Check { term, .. } => {
+            let ctx = Context::empty();
+            check(judge, alloc, env, &ctx, term, fuel)
+        }
         CommandForm::Proof(_) => Err(refusal(NO_PROOF)),
         CommandForm::Qed(_) => Err(refusal(NO_PROOF)),
         CommandForm::Defined(_) => Err(refusal(NO_PROOF)),

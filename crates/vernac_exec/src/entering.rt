@@ -1,9 +1,10 @@
 //! What the commands share: refusals, terms over their groups, and what goes to the kernel.
-ghost use Rattle.std.specs.Prelude.{◌≡◌};
+ghost use Rattle.std.specs.Prelude.{◌≡◌, IfOk};
 ghost use Rattle.base_core.specs.Answers.{Gives};
 ghost use Rattle.cic_rules.specs.Fuel.{IsSpentOf};
 ghost use Rattle.cic_rules.specs.Steps.{answer_of};
 ghost use Rattle.elaborator.specs.Parts.{closed};
+ghost use Rattle.vernac_exec.specs.Standing.{IsDeedIn};
 ghost use Rattle.vernac_exec.specs.Calls.{Does, refusal_of, declare_as_with};
 
 use crate::deed::Deed;
@@ -34,6 +35,7 @@ pub(crate) fn declare_as<D: Declares>(
     fuel: &mut Fuel,
 ) -> Result<Deed, Stop>
     ensures answer { Does result fuel.old fuel.new (declare_as_with env.now kind decl.now) }
+    ensures deed { IfOk result (IsDeedIn env.now) }
     ensures kept { IsSpentOf fuel.old fuel.new }
 {
     let env = judge.declare(alloc, env, decl, fuel)?;

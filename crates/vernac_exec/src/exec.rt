@@ -9,7 +9,8 @@ ghost use Rattle.vernac_exec.specs.Laws.{grant};
 
 use crate::deed::Deed;
 use crate::diagnostics::diagnostics_of;
-use crate::sentences::sentence_run;
+use crate::reading::read;
+use crate::sentences::run_read;
 use crate::state::ProverState;
 use base_core::{Kind, Limit, NoMem, Steps, Stop, UNIT_LIMIT};
 use cic_kernel::Kernel;
@@ -38,7 +39,16 @@ pub fn exec_sentence<C: Ledger>(
     }
     let grant = grant_of(units);
     let mut fuel = Fuel::new(grant);
-    let answer = sentence_run(&Kernel {}, alloc, &state.env, kind, text, &mut fuel);
+    let reading = read(alloc, kind, text);
+    let inner = &state.state;
+    let answer = run_read(
+        &Kernel {},
+        alloc,
+        &inner.env,
+        &inner.opened,
+        &reading,
+        &mut fuel,
+    );
     let cost = fuel.spent() + 1;
     if is_want(&answer) {
         return Err(NoMem);
@@ -48,7 +58,7 @@ pub fn exec_sentence<C: Ledger>(
         return Ok(Outcome::Interrupted);
     }
     let diags = diagnostics_of(alloc, text, &answer)?;
-    let state = state.behind(alloc, answer)?;
+    let state = state.behind(alloc, &reading, answer)?;
     steps.rise(cost as u64);
     Ok(Outcome::Done { state, diags, cost })
 }

@@ -9,6 +9,7 @@ ghost use Rattle.cic_rules.specs.Fuel.{IsSpentOf};
 ghost use Rattle.cic_rules.specs.Judges.{MayJudge, IsTermIn};
 ghost use Rattle.inductive_check.specs.Steps.{assumption_of, sized};
 ghost use Rattle.vernac_exec.specs.Families.{family};
+ghost use Rattle.vernac_exec.specs.Standing.{IsDeedIn};
 ghost use Rattle.vernac_exec.specs.Calls.{Does, params_with, ctor_with, constructors_with, assumed_in, rest_with, family_with, induct_with, induct_new_with};
 
 use crate::deed::Deed;
@@ -39,6 +40,7 @@ pub(crate) fn induct<D: Declares>(
     fuel: &mut Fuel,
 ) -> Result<Deed, Stop>
     ensures answer { Does result fuel.old fuel.new (induct_with env.now name.now groups.now arity.now ctors.now) }
+    ensures deed { IfOk result (IsDeedIn env.now) }
     ensures kept { IsSpentOf fuel.old fuel.new }
 {
     let names = written_names(alloc, name, ctors)?;
@@ -64,6 +66,7 @@ fn induct_new<D: Declares>(
 ) -> Result<Deed, Stop>
     requires { IsNew env.now name.now }
     ensures answer { Does result fuel.old fuel.new (induct_new_with env.now name.now groups.now arity.now ctors.now) }
+    ensures deed { IfOk result (IsDeedIn env.now) }
     ensures kept { IsSpentOf fuel.old fuel.new }
 {
     let params = open_params(judge, alloc, env, groups, fuel)?;
@@ -105,6 +108,7 @@ fn elab_family<D: Declares>(
     requires arity { IsTermIn env.now params.now arity }
     requires plain { AreParams params.now }
     ensures answer { Does result fuel.old fuel.new (family_with env.now name.now params.now arity ctors.now) }
+    ensures deed { IfOk result (IsDeedIn env.now) }
     ensures kept { IsSpentOf fuel.old fuel.new }
 {
     let inner = assumed(alloc, env, name, params, &arity)?;
@@ -169,6 +173,7 @@ fn declare_family<D: Declares>(
     requires judged { MayJudge inner.now params.now }
     requires plain { AreParams params.now }
     ensures answer { Does result fuel.old fuel.new (rest_with env.now inner.now name.now params.now arity ctors.now) }
+    ensures deed { IfOk result (IsDeedIn env.now) }
     ensures kept { IsSpentOf fuel.old fuel.new }
 {
     let place = env.len();

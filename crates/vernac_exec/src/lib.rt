@@ -1,5 +1,5 @@
 //! Running one sentence: what it declares or answers, what its author is told, and what it costs.
-//! Today that is every command that needs no proof.
+//! A state has the environment, the outline, and the proof under way, if there is one.
 #![tactic(auto)]
 
 mod commands;
@@ -12,14 +12,18 @@ mod laws;
 mod names;
 mod outline;
 mod prover_laws;
+mod proving;
+mod reading;
 mod sentences;
 mod soundness;
 mod state;
+mod views;
 
-pub use deed::Deed;
+pub use deed::{CodeList, Deed};
 pub use diagnostics::diagnostics_of;
 pub use exec::exec_sentence;
 pub use laws::{law_of_states, law_of_units};
 pub use prover_laws::law_of_prover;
+pub use reading::Reading;
 pub use soundness::law_of_soundness;
-pub use state::{ProverState, Row};
+pub use state::{OpenProof, ProverState, Row, State, Theorem};

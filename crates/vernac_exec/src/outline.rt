@@ -18,13 +18,13 @@ impl ProverState {
     pub fn outline(&self, alloc: Global) -> Result<OutlineList, NoMem>
         ensures { IfOk result (λ outline. outline ≡ outline_of self.now) }
     {
-        let lists = axiom_lists(alloc, &self.env)?;
+        let lists = axiom_lists(alloc, &self.state.env)?;
         let mut outline = OutlineList::new(alloc);
-        for i in 0..self.outline.len() {
-            let Some(row) = self.outline.get(i) else {
+        for i in 0..self.state.outline.len() {
+            let Some(row) = self.state.outline.get(i) else {
                 unreachable!()
             };
-            outline.push(item(alloc, &self.env, lists.as_slice(), row)?)?;
+            outline.push(item(alloc, &self.state.env, lists.as_slice(), row)?)?;
         }
         Ok(outline)
     }

@@ -1,63 +1,93 @@
-//! Sentences: their kind is judged first, then they are read, then obeyed.
-ghost use Rattle.std.specs.Prelude.{◌^◌, ◌<◌, length};
-ghost use Rattle.base_core.specs.Fit.{IsFit};
+//! Sentences: what they are read as is obeyed, where a proof is under way and where none is.
+ghost use Rattle.std.specs.Prelude.{IfOk};
 ghost use Rattle.cic_rules.specs.Fuel.{IsSpentOf};
-ghost use Rattle.vernac_exec.specs.Calls.{Does, tokens_with, sentence_with};
+ghost use Rattle.proof_state.specs.Scopes.{HaveGoalsIn};
+ghost use Rattle.vernac_exec.specs.Standing.{HaveGoals, IsDeedIn};
+ghost use Rattle.vernac_exec.specs.Calls.{Does, run_outside_with, run_inside_with, run_reading_with, run_read_with};
 
 use crate::commands::obey;
 use crate::deed::Deed;
 use crate::entering::refusal;
-use base_core::refusal_codes::{NO_PROOF, UNFINISHED};
-use base_core::{Kind, Stop};
+use crate::reading::Reading;
+use crate::state::OpenProof;
+use base_core::Stop;
+use base_core::refusal_codes::NO_PROOF;
 use cic_rules::{Declares, Fuel, GlobalEnv};
-use coq_syntax::{TokenList, is_command, tokens};
-use move_parser::parse_move;
 use std::alloc::Global;
-use vernac_parser::parse_command;
 
-/// What a sentence's tokens are read as is obeyed, where no proof is open. A proof move is read
-/// before it is refused.
-fn obey_tokens<D: Declares>(
+/// Where no proof is under way.
+fn run_outside<D: Declares>(
     judge: &D,
     alloc: Global,
     env: &GlobalEnv,
-    tokens: &TokenList,
+    reading: &Reading,
     fuel: &mut Fuel,
 ) -> Result<Deed, Stop>
-    ensures answer { Does result fuel.old fuel.new (tokens_with env.now tokens.now) }
+    ensures answer { Does result fuel.old fuel.new (run_outside_with env.now reading.now) }
+    ensures deed { IfOk result (IsDeedIn env.now) }
     ensures kept { IsSpentOf fuel.old fuel.new }
 {
-    if is_command(tokens) {
-        let command = parse_command(alloc, tokens)?;
-        return obey(judge, alloc, env, &command, fuel);
+    match reading {
+        Reading::Command(command) => obey(judge, alloc, env, command, fuel),
+        Reading::Move(_) => Err(refusal(NO_PROOF)),
+        Reading::Bullet { .. } => Err(refusal(NO_PROOF)),
+        Reading::OpenBrace => Err(refusal(NO_PROOF)),
+        Reading::CloseBrace => Err(refusal(NO_PROOF)),
     }
-    let _read = parse_move(alloc, tokens)?;
-    Err(refusal(NO_PROOF))
 }
 
-/// A sentence in an environment.
-#[tactic(auto, unfolding(crate::specs::Sentences::sentence_run))]
-pub(crate) fn sentence_run<D: Declares>(
+/// In a proof under way.
+fn run_inside<D: Declares>(
     judge: &D,
     alloc: Global,
     env: &GlobalEnv,
-    kind: Kind,
-    text: &str,
+    open: &OpenProof,
+    reading: &Reading,
     fuel: &mut Fuel,
 ) -> Result<Deed, Stop>
-    requires fit { IsFit kind text.now }
-    requires short { length text.now < 2 ^ 32 }
-    ensures answer { Does result fuel.old fuel.new (sentence_with env.now kind text.now) }
+    requires { HaveGoalsIn env.now open.now.proof.goals }
+    ensures answer { Does result fuel.old fuel.new (run_inside_with env.now open.now reading.now) }
+    ensures deed { IfOk result (IsDeedIn env.now) }
     ensures kept { IsSpentOf fuel.old fuel.new }
 {
-    match kind {
-        Kind::Unfinished => Err(refusal(UNFINISHED)),
-        Kind::Bullet => Err(refusal(NO_PROOF)),
-        Kind::BraceOpen => Err(refusal(NO_PROOF)),
-        Kind::BraceClose => Err(refusal(NO_PROOF)),
-        Kind::Plain => {
-            let tokens = tokens(alloc, text)?;
-            obey_tokens(judge, alloc, env, &tokens, fuel)
-        }
+    Err(Stop::NoMem)
+}
+
+fn run_reading<D: Declares>(
+    judge: &D,
+    alloc: Global,
+    env: &GlobalEnv,
+    opened: &Option<OpenProof>,
+    reading: &Reading,
+    fuel: &mut Fuel,
+) -> Result<Deed, Stop>
+    requires { HaveGoals env.now opened.now }
+    ensures answer { Does result fuel.old fuel.new (run_reading_with env.now opened.now reading.now) }
+    ensures deed { IfOk result (IsDeedIn env.now) }
+    ensures kept { IsSpentOf fuel.old fuel.new }
+{
+    match opened {
+        Some(open) => run_inside(judge, alloc, env, open, reading, fuel),
+        None => run_outside(judge, alloc, env, reading, fuel),
+    }
+}
+
+/// A sentence that was read so, or refused.
+pub(crate) fn run_read<D: Declares>(
+    judge: &D,
+    alloc: Global,
+    env: &GlobalEnv,
+    opened: &Option<OpenProof>,
+    reading: &Result<Reading, Stop>,
+    fuel: &mut Fuel,
+) -> Result<Deed, Stop>
+    requires { HaveGoals env.now opened.now }
+    ensures answer { Does result fuel.old fuel.new (run_read_with env.now opened.now reading.now) }
+    ensures deed { IfOk result (IsDeedIn env.now) }
+    ensures kept { IsSpentOf fuel.old fuel.new }
+{
+    match reading {
+        Ok(reading) => run_reading(judge, alloc, env, opened, reading, fuel),
+        Err(stop) => Err(*stop),
     }
 }
