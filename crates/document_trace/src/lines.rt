@@ -86,10 +86,9 @@ fn add_level(lines: &mut String, level: usize, goals: &[GoalView]) -> Result<(),
 /// The goals in focus, those that wait at each level, the innermost first, and those that are given up.
 pub fn add_goals(lines: &mut String, view: &GoalsView) -> Result<(), AllocError> {
     add_goals_as(lines, "goal", view.goals.as_slice())?;
-    let mut level = 0;
-    for goals in view.stack.as_slice() {
-        add_level(lines, level, goals.as_slice())?;
-        level += 1;
+    let stack = view.stack.as_slice();
+    for level in 0..stack.len() {
+        add_level(lines, level, stack[level].as_slice())?;
     }
     add_goals_as(lines, "given up", view.given_up.as_slice())
 }
