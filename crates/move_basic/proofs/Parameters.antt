@@ -1,14 +1,14 @@
 -- The first arguments of a term, and the last of them taken off.
-use Rattle.std.specs.Prelude.{◌≡◌, ℕ, zero, suc, ◌-◌, ◌≤◌, ◌<◌, List, [], ◌∷◌, length, take, refl}
+use Rattle.std.specs.Prelude.{Bool, true, false, Ok, Err, if◌then◌else◌, ◌≡◌, ℕ, zero, suc, ◌-◌, ◌≤◌, ◌<◌, List, [], ◌∷◌, length, take, refl}
 use Rattle.std.proofs.Common.{ap, sym, subst, ◌∙◌, arith, length-append}
 use Rattle.std.proofs.lemmas.List.{take-append-le}
-use Rattle.base_core.specs.Answers.{Gives}
-use Rattle.base_core.specs.declared.refusals.Stop.{Stop}
+use Rattle.core_term.specs.Answers.{within_limits, Gives}
 use Rattle.core_term.specs.Tree.{Tree, Constant, App, is_small}
+use Rattle.core_term.specs.declared.stops.TermStop.{TermStop}
+use Rattle.core_term.specs.declared.stops.TermStop.TheVariants.{TooLarge, NoMem}
 use Rattle.term_spine.specs.Spine.{arguments_of, apply_all}
 use Rattle.term_spine.proofs.SpineFacts.{applied_twice, applied_too_large}
-use Rattle.cic_rules.specs.Steps.{TooLarge, answer_of}
-use Rattle.move_basic.specs.Constructors.{sized, at_params}
+use Rattle.move_basic.specs.Constructors.{at_params}
 
 take_all : {A : Type 0} (xs : List A) (k : ℕ) → length xs ≤ k → take k xs ≡ xs
 take_all [] zero le = refl
@@ -41,3 +41,18 @@ with_last place f a =
     ap (λ xs. App (apply_all (Constant place) xs) a) (take_all (arguments_of f) (length (arguments_of f) - 0) (omega arith))
     ∙ sym (applied_twice (Constant place) (arguments_of f) (a ∷ []))
     ∙ ap (apply_all (Constant place)) (sym (take_all (arguments_of (App f a)) (length (arguments_of (App f a)) - 0) (omega arith)))
+
+-- an application whose function can't be made
+
+large_by : (u v : Tree) (stop : TermStop) (b c : Bool) → (b ≡ false → c ≡ false) → Gives {A = Tree} (Err stop) (if b then Ok u else Err TooLarge) →
+    Gives {A = Tree} (Err stop) (if c then Ok v else Err TooLarge)
+large_by u v NoMem b c large gives = tt
+large_by u v TooLarge true c large gives = cc
+large_by u v TooLarge false c large gives = let e = large refl in rw e refl
+
+pub stop_kept : (place : ℕ) (f a : Tree) (stop : TermStop) → Gives {A = Tree} (Err stop) (within_limits (at_params (length (arguments_of f) - 0) place f)) →
+    Gives {A = Tree} (Err stop) (within_limits (at_params (length (arguments_of (App f a)) - 0) place (App f a)))
+stop_kept place f a stop gives =
+    let u = at_params (length (arguments_of f) - 0) place f in
+    subst (λ (v : Tree). Gives {A = Tree} (Err stop) (within_limits v)) (with_last place f a)
+    (large_by u (App u a) stop (is_small u) (is_small (App u a)) (λ large. applied_too_large u (a ∷ []) large) gives)
