@@ -1,9 +1,8 @@
 -- What a sentence leaves is sound.
-use Rattle.std.proofs.Common.{◌≡◌, ℕ, zero, suc, ◌+◌, ◌^◌, ◌<◌, nat_le, List, [], ◌∷◌, ◌++◌, length, Bool, true, false, Option, Some, None, Result, Ok, Err, refl, sym, ◌∙◌, subst, All, arith}
+use Rattle.std.proofs.Common.{◌≡◌, ℕ, zero, suc, ◌+◌, ◌^◌, ◌<◌, nat_le, nat_lt, List, [], ◌∷◌, ◌++◌, length, Bool, true, false, Option, Some, None, Result, Ok, Err, refl, sym, ◌∙◌, subst, All, arith}
 use Rattle.std.specs.Prelude.{if◌then◌else◌}
 use Rattle.std.proofs.lemmas.List.Elements.{All-push}
 use Rattle.base_core.specs.declared.kind.Kind.{Kind}
-use Rattle.base_core.specs.declared.kind.Kind.TheVariants.{Plain, Bullet, BraceOpen, BraceClose, Unfinished}
 use Rattle.base_core.specs.declared.refusal_codes.TheConstants as code
 use Rattle.base_core.specs.declared.refusals.Stop.{Stop}
 use Rattle.base_core.specs.declared.refusals.Stop.TheVariants.{Out}
@@ -13,8 +12,7 @@ use Rattle.prover_iface.specs.declared.outline.ItemKind.TheVariants as item
 use Rattle.coq_syntax.specs.Trees.{Term, GroupList, Annotation}
 use Rattle.coq_syntax.specs.CommandTrees.{Constructor, Command}
 use Rattle.coq_syntax.specs.CommandTrees as command
-use Rattle.coq_syntax.specs.SentenceTokens.{sentence_tokens}
-use Rattle.move_parser.specs.Sentences.{Sentence, CommandSentence, MoveSentence, read_sentence}
+use Rattle.coq_syntax.specs.MoveTrees.{Move}
 use Rattle.core_term.specs.Tree.{Tree}
 use Rattle.cic_rules.specs.declared.context.Hyp.{Hyp}
 use Rattle.cic_rules.specs.declared.decls.Decl.{Decl}
@@ -32,23 +30,37 @@ use Rattle.cic_rules.specs.Infer.{infer_at, sort_of_at, check_at}
 use Rattle.cic_rules.specs.Inductive.{has_twice, any_taken, assumed_type, check_inductive_at}
 use Rattle.cic_rules.specs.Declare.{enter, assume as assume_at, define as define_at, eliminators, declare_at}
 use Rattle.cic_rules.specs.Laws.{Tells}
-use Rattle.cic_rules.specs.Runs.{Run, give, check_size, forbid}
+use Rattle.cic_rules.specs.Runs.{Run, give, check_size, forbid, some_or}
+use Rattle.cic_rules.specs.Steps.{take_step}
 use Rattle.cic_rules.specs.WellFormed.{WfEnv}
 use Rattle.cic_rules.proofs.TellsLaws.{tells_give, tells_pure, tells_stop, tells_bind, tells_step}
 use Rattle.cic_soundness.proofs.DeclareSound.{declare_keeps_form}
 use Rattle.cic_soundness.proofs.GroundedSound.{entries_are_grounded}
 use Rattle.elaborator.specs.Elab.{elab, open_groups}
-use Rattle.elaborator.specs.declared.binders.Binding.TheVariants.{Function}
+use Rattle.elaborator.specs.declared.binders.Binding.TheVariants.{Product, Function}
+use Rattle.elaborator.specs.Parts.{closed}
+use Rattle.bullet_focus.specs.FocusState.{FocusState}
+use Rattle.bullet_focus.specs.Steps.{replaced, after_bullet, after_brace_open, after_brace_close}
+use Rattle.move_basic.specs.Moves.{run_basic}
+use Rattle.proof_state.specs.declared.goals.Goal.{Goal}
+use Rattle.proof_state.specs.Proof.{Proof}
+use Rattle.proof_state.specs.Steps.{started, unsolved_at, refined_by, bounded, closed as whole_proof}
 use Rattle.vernac_exec.specs.declared.deed.Deed.{Deed}
-use Rattle.vernac_exec.specs.declared.deed.Deed.TheVariants.{Declares, Answers}
+use Rattle.vernac_exec.specs.declared.deed.Deed.TheVariants.{Declares, Answers, Begins as Starts, GoesOn, Passes, Drops}
+use Rattle.vernac_exec.specs.declared.reading.Reading.{Reading}
+use Rattle.vernac_exec.specs.declared.reading.Reading.TheVariants as read
+use Rattle.vernac_exec.specs.declared.state.OpenProof.{OpenProof}
 use Rattle.vernac_exec.specs.declared.state.Row.{Row}
-use Rattle.vernac_exec.specs.declared.state.ProverState.{ProverState}
+use Rattle.vernac_exec.specs.declared.state.State.{State}
 use Rattle.vernac_exec.specs.Families.{family, written_names, elab_constructors}
-use Rattle.vernac_exec.specs.Commands.{judgement_text, declare_as, assume, elab_over, elab_annotation, define, elab_family, induct, check, obey}
-use Rattle.vernac_exec.specs.Sentences.{obey_read, sentence_run}
-use Rattle.vernac_exec.specs.States.{next_row, behind}
+use Rattle.vernac_exec.specs.Commands.{judgement_text, theorem, named_hyps, declare_as, assume, elab_over, elab_annotation, define, elab_family, induct, check, begin_proof, obey}
+use Rattle.vernac_exec.specs.Proofs.{first_number, context_in_focus, refocused, told_of_filling, has_unsolved, prove_at, prove, end_proof, obey_inside}
+use Rattle.vernac_exec.specs.Readings.{is_end_of, reading}
+use Rattle.vernac_exec.specs.Sentences.{run_outside, run_inside, run_reading, sentence_run}
+use Rattle.vernac_exec.specs.States.{next_row, passed, declared, done, entered_as_admitted, with_progress, behind}
 use Rattle.vernac_exec.specs.Exec.{whole_run}
-use Rattle.vernac_exec.specs.Soundness.{is_taken_for_granted, IsRowIn, IsSound, StatesAreSound}
+use Rattle.vernac_exec.specs.Laws.{Adds as AddsTo}
+use Rattle.vernac_exec.specs.Soundness.{is_taken_for_granted, IsRowIn, WaitsIn, IsPutBy, IsSound, StatesAreSound}
 
 any : {A : Type 0} (f : Run A) → Tells f (λ _. Unit {0})
 any f = record { tells = λ left x e. tt }
@@ -139,10 +151,38 @@ module _ (env : List Slot) (calls : ℕ) where
             record { first = a.first; more = a.more; parts = a.parts; kind = a.kind; formed = λ is. (declare_keeps_form env is calls d).tells left made e };
       }
 
+-- globals behind others change none of them
+behind_is : (env more : List Slot) → is_assumption (env ++ more) (length env) ≡ is_assumption more 0
+behind_is [] more = refl
+behind_is (x ∷ env) more = behind_is env more
+
+before_is : (env more : List Slot) (place : ℕ) → place < length env → is_assumption (env ++ more) place ≡ is_assumption env place
+before_is [] more place within = absurd (omega arith)
+before_is (x ∷ env) more zero within = refl
+before_is (x ∷ env) more (suc place) within = before_is env more place (omega arith)
+
 -- what a deed leaves of an environment
 abbrev IsDeedIn : List Slot → Deed → Type 0
 IsDeedIn env (Declares kind made) = Grows env (is_taken_for_granted kind) made
-IsDeedIn env (Answers text) = Unit {0}
+IsDeedIn env (Starts theorem proof) = Grows env true theorem.admitted
+IsDeedIn env _ = Unit {0}
+
+-- a theorem that waits is entered as it was put by
+waiting_grows : (env admitted : List Slot) → WaitsIn env admitted → Grows env true admitted
+waiting_grows env admitted w = record {
+  first = w.next.first;
+  more = w.next.more;
+  parts = w.next.parts;
+  kind = sym (behind_is env (w.next.first ∷ w.next.more)) ∙ subst (λ slots. is_assumption slots (length env) ≡ true) w.next.parts w.assumed;
+  formed = λ _. w.environment;
+}
+
+grown_waits : (env admitted : List Slot) → Grows env true admitted → WfEnv env → WaitsIn env admitted
+grown_waits env admitted g is = record {
+  environment = g.formed is;
+  next = record { first = g.first; more = g.more; parts = g.parts };
+  assumed = subst (λ slots. is_assumption slots (length env) ≡ true) (sym g.parts) (behind_is env (g.first ∷ g.more) ∙ g.kind);
+}
 
 module _ (env : List Slot) (calls : ℕ) where
   declare_does : (kind : ItemKind) (d : Decl) → grants d ≡ is_taken_for_granted kind → Tells (declare_as env calls kind d) (IsDeedIn env)
@@ -174,45 +214,84 @@ module _ (env : List Slot) (calls : ℕ) where
       (tells_bind (any (open_groups env calls [] groups)) (λ params _.
       tells_bind (any (elab env calls params s)) (λ arity _. family_does name params arity cs))))
 
-  check_does : (s : Term) → Tells (check env calls s) (IsDeedIn env)
-  check_does s =
-      tells_bind (any (elab env calls [] s)) (λ t _.
-      tells_bind (any (infer_at env calls [] t)) (λ i _. tells_pure (Answers (judgement_text env t i.ty)) tt))
+  check_does : (ctx : List Hyp) (s : Term) → Tells (check env calls ctx s) (IsDeedIn env)
+  check_does ctx s =
+      tells_bind (any (elab env calls ctx s)) (λ t _.
+      tells_bind (any (infer_at env calls ctx t)) (λ i _. tells_pure (Answers (judgement_text env ctx t i.ty)) tt))
+
+  begin_does : (name : List ℕ) (groups : GroupList) (s : Term) → Tells (begin_proof env calls name groups s) (IsDeedIn env)
+  begin_does name groups s =
+      tells_step (forbid (is_taken env name) code.NAME_TAKEN)
+      (tells_bind (any (open_groups env calls [] groups)) (λ inner _. tells_bind (any (elab env calls inner s)) (λ statement _.
+      tells_bind (any (take_step (closed Product inner statement))) (λ ty _. tells_bind (declare_grows env calls (Admit name ty)) (λ admitted h.
+      tells_pure (Starts (theorem name ty admitted) (started (named_hyps env inner) statement)) h)))))
 
   obey_does : (c : Command) → Tells (obey env calls c) (IsDeedIn env)
   unfolding obey
   obey_does (command.Assume word keyword name colon ty) = assume_does name.text ty
   obey_does (command.Define keyword name groups annotation assign value) = define_does name.text groups annotation value
-  obey_does (command.State word keyword name groups colon ty) = tells_stop _
+  obey_does (command.State word keyword name groups colon ty) = begin_does name.text groups ty
   obey_does (command.Inductive keyword name groups colon arity assign constructors) = induct_does name.text groups arity constructors
-  obey_does (command.Check keyword term) = check_does term
+  obey_does (command.Check keyword term) = check_does [] term
   obey_does (command.Proof place) = tells_stop _
   obey_does (command.Qed place) = tells_stop _
   obey_does (command.Defined place) = tells_stop _
   obey_does (command.Admitted place) = tells_stop _
   obey_does (command.Aborted place) = tells_stop _
 
-  read_does : (s : Sentence) → Tells (obey_read env calls s) (IsDeedIn env)
-  read_does (CommandSentence c) = obey_does c
-  read_does (MoveSentence m) = tells_stop _
+  outside_does : (r : Reading) → Tells (run_outside env calls r) (IsDeedIn env)
+  outside_does (read.Command c) = obey_does c
+  outside_does (read.Move m) = tells_stop _
+  outside_does (read.Bullet mark count) = tells_stop _
+  outside_does read.OpenBrace = tells_stop _
+  outside_does read.CloseBrace = tells_stop _
 
-  sentence_does : (kind : Kind) (text : List ℕ) → Tells (sentence_run env calls kind text) (IsDeedIn env)
+  module _ (o : OpenProof) (put : WaitsIn env o.theorem.admitted) where
+    prove_at_does : (n : ℕ) (g : Goal) (m : Move) → Tells (prove_at env calls o n g m) (IsDeedIn env)
+    prove_at_does n g m =
+        tells_bind (any (run_basic env calls g m)) (λ by _. tells_bind (any (give (refined_by o.proof n by))) (λ r _.
+        tells_pure (GoesOn r.proof (replaced r.goals o.focus) (told_of_filling by)) tt))
+
+    prove_does : (m : Move) → Tells (prove env calls o m) (IsDeedIn env)
+    prove_does m =
+        tells_bind (any (some_or code.NO_GOAL (first_number o))) (λ n _.
+        tells_bind (any (some_or code.NO_GOAL (unsolved_at o.proof.goals n))) (λ g _. prove_at_does n g m))
+
+    end_does : (opaque : Bool) → Tells (end_proof env calls opaque o) (IsDeedIn env)
+    end_does opaque =
+        tells_step (forbid (has_unsolved o.proof.goals) code.GOALS_REMAIN)
+        (tells_step (forbid (nat_lt 0 (length o.proof.given_up)) code.ADMITTED_GOALS)
+        (tells_bind (any (give (bounded (whole_proof o.proof)))) (λ t _.
+        declare_does item.Theorem (Define o.theorem.name (Some o.theorem.ty) t opaque) refl)))
+
+    inside_does : (c : Command) → Tells (obey_inside env calls o c) (IsDeedIn env)
+    unfolding obey_inside
+    inside_does (command.Assume word keyword name colon ty) = tells_stop _
+    inside_does (command.Define keyword name groups annotation assign value) = tells_stop _
+    inside_does (command.State word keyword name groups colon ty) = tells_stop _
+    inside_does (command.Inductive keyword name groups colon arity assign constructors) = tells_stop _
+    inside_does (command.Check keyword term) = check_does (context_in_focus o) term
+    inside_does (command.Proof place) = tells_pure Passes tt
+    inside_does (command.Qed place) = end_does true
+    inside_does (command.Defined place) = end_does false
+    inside_does (command.Admitted place) = tells_pure (Declares item.Admitted o.theorem.admitted) (waiting_grows env o.theorem.admitted put)
+    inside_does (command.Aborted place) = tells_pure Drops tt
+
+    run_inside_does : (r : Reading) → Tells (run_inside env calls o r) (IsDeedIn env)
+    run_inside_does (read.Command c) = inside_does c
+    run_inside_does (read.Move m) = prove_does m
+    run_inside_does (read.Bullet mark count) = tells_pure (refocused o (after_bullet mark count o.focus)) tt
+    run_inside_does read.OpenBrace = tells_pure (refocused o (after_brace_open o.focus)) tt
+    run_inside_does read.CloseBrace = tells_pure (refocused o (after_brace_close o.focus)) tt
+
+  reading_does : (opened : Option OpenProof) → IsPutBy env opened → (r : Reading) → Tells (run_reading env calls opened r) (IsDeedIn env)
+  reading_does None put r = outside_does r
+  reading_does (Some o) put r = run_inside_does o put r
+
+  sentence_does : (opened : Option OpenProof) → IsPutBy env opened → (kind : Kind) (text : List ℕ) →
+      Tells (sentence_run env calls opened kind text) (IsDeedIn env)
   unfolding sentence_run
-  sentence_does Plain text = tells_bind (any (give (read_sentence (sentence_tokens text)))) (λ s _. read_does s)
-  sentence_does Bullet text = tells_stop _
-  sentence_does BraceOpen text = tells_stop _
-  sentence_does BraceClose text = tells_stop _
-  sentence_does Unfinished text = tells_stop _
-
--- globals behind others change none of them
-behind_is : (env more : List Slot) → is_assumption (env ++ more) (length env) ≡ is_assumption more 0
-behind_is [] more = refl
-behind_is (x ∷ env) more = behind_is env more
-
-before_is : (env more : List Slot) (place : ℕ) → place < length env → is_assumption (env ++ more) place ≡ is_assumption env place
-before_is [] more place within = absurd (omega arith)
-before_is (x ∷ env) more zero within = refl
-before_is (x ∷ env) more (suc place) within = before_is env more place (omega arith)
+  sentence_does opened put kind text = tells_bind (any (give (reading kind text))) (λ r _. reading_does opened put r)
 
 longer : (env : List Slot) (first : Slot) (more : List Slot) → length env < length (env ++ first ∷ more)
 longer [] first more = omega arith
@@ -226,29 +305,75 @@ more_room (x ∷ env) more (suc place) within = let rest = more_room env more pl
 row_stays : (env more : List Slot) (row : Row) → IsRowIn env row → IsRowIn (env ++ more) row
 row_stays env more row is = record { there = more_room env more row.place is.there; kind = before_is env more row.place is.there ∙ is.kind }
 
-new_row : (m : ProverState) (kind : ItemKind) (first : Slot) (more : List Slot) → is_assumption (first ∷ more) 0 ≡ is_taken_for_granted kind →
+new_row : (m : State) (kind : ItemKind) (first : Slot) (more : List Slot) → is_assumption (first ∷ more) 0 ≡ is_taken_for_granted kind →
     IsRowIn (m.env ++ first ∷ more) (next_row m kind)
 new_row m kind first more is = record { there = longer m.env first more; kind = behind_is m.env (first ∷ more) ∙ is }
 
-all_rows : (m : ProverState) (kind : ItemKind) (first : Slot) (more : List Slot) → is_assumption (first ∷ more) 0 ≡ is_taken_for_granted kind →
+all_rows : (m : State) (kind : ItemKind) (first : Slot) (more : List Slot) → is_assumption (first ∷ more) 0 ≡ is_taken_for_granted kind →
     All (IsRowIn m.env) m.outline → All (IsRowIn (m.env ++ first ∷ more)) (m.outline ++ next_row m kind ∷ [])
 all_rows m kind first more is rows =
     All-push (IsRowIn (m.env ++ first ∷ more)) m.outline (next_row m kind) (λ k d lt. row_stays m.env (first ∷ more) _ (rows k d lt)) (new_row m kind first more is)
 
-formed_by : (m : ProverState) (r : Result Deed Stop) → ((deed : Deed) → r ≡ Ok deed → IsDeedIn m.env deed) → WfEnv m.env → WfEnv (behind m r).env
-formed_by m (Ok (Declares kind made)) h is = (h (Declares kind made) refl).formed is
-formed_by m (Ok (Answers text)) h is = is
-formed_by m (Err stop) h is = is
+-- what is known of a sentence's deed
+abbrev Told : State → Result Deed Stop → Type 0
+Told m answer = (deed : Deed) → answer ≡ Ok deed → IsDeedIn m.env deed
 
-after_by : (m : ProverState) (r : Result Deed Stop) → ((deed : Deed) → r ≡ Ok deed → IsDeedIn m.env deed) → IsSound m → IsSound (behind m r)
-after_by m (Ok (Declares kind made)) h is =
-    let g = h (Declares kind made) refl in
-    record {
-      environment = g.formed is.environment;
-      rows = subst (λ env. All (IsRowIn env) (m.outline ++ next_row m kind ∷ [])) (sym g.parts) (all_rows m kind g.first g.more g.kind is.rows);
-    }
-after_by m (Ok (Answers text)) h is = record { environment = is.environment; rows = is.rows }
-after_by m (Err stop) h is = record { environment = is.environment; rows = is.rows }
+done_formed : (m : State) (deed : Deed) → IsDeedIn m.env deed → WfEnv m.env → WfEnv (done m deed).env
+done_formed m (Declares kind made) h is = h.formed is
+done_formed m (Answers text) h is = is
+done_formed m (Starts theorem proof) h is = is
+done_formed m (GoesOn proof focus told) h is = is
+done_formed m Passes h is = is
+done_formed m Drops h is = is
+
+admitted_formed : (m : State) (opened : Option OpenProof) → IsPutBy m.env opened → WfEnv m.env → WfEnv (entered_as_admitted m opened).env
+admitted_formed m None put is = is
+admitted_formed m (Some o) put is = put.environment
+
+refused_formed : (m : State) (b : Bool) → IsPutBy m.env m.opened → WfEnv m.env → WfEnv (if b then entered_as_admitted m m.opened else passed m).env
+refused_formed m true put is = admitted_formed m m.opened put is
+refused_formed m false put is = is
+
+formed_by : (m : State) (r : Result Reading Stop) (answer : Result Deed Stop) → IsPutBy m.env m.opened → Told m answer → WfEnv m.env →
+    WfEnv (behind m r answer).env
+formed_by m r (Ok deed) put h is = done_formed m deed (h deed refl) is
+formed_by m r (Err stop) put h is = refused_formed m (is_end_of r) put is
+
+with_put : (env : List Slot) (opened : Option OpenProof) (proof : Proof) (focus : FocusState) → IsPutBy env opened → IsPutBy env (with_progress opened proof focus)
+with_put env None proof focus put = tt
+with_put env (Some o) proof focus put = put
+
+declared_sound : (m : State) (kind : ItemKind) (made : List Slot) → Grows m.env (is_taken_for_granted kind) made → IsSound m → IsSound (declared m kind made)
+declared_sound m kind made g is = record {
+  environment = g.formed is.environment;
+  rows = subst (λ env. All (IsRowIn env) (m.outline ++ next_row m kind ∷ [])) (sym g.parts) (all_rows m kind g.first g.more g.kind is.rows);
+  put_by = tt;
+}
+
+done_sound : (m : State) (deed : Deed) → IsDeedIn m.env deed → IsSound m → IsSound (done m deed)
+done_sound m (Declares kind made) h is = declared_sound m kind made h is
+done_sound m (Answers text) h is = record { environment = is.environment; rows = is.rows; put_by = is.put_by }
+done_sound m (Starts theorem proof) h is =
+    record { environment = is.environment; rows = is.rows; put_by = grown_waits m.env theorem.admitted h is.environment }
+done_sound m (GoesOn proof focus told) h is =
+    record { environment = is.environment; rows = is.rows; put_by = with_put m.env m.opened proof focus is.put_by }
+done_sound m Passes h is = record { environment = is.environment; rows = is.rows; put_by = is.put_by }
+done_sound m Drops h is = record { environment = is.environment; rows = is.rows; put_by = tt }
+
+passed_sound : (m : State) → IsSound m → IsSound (passed m)
+passed_sound m is = record { environment = is.environment; rows = is.rows; put_by = is.put_by }
+
+admitted_sound : (m : State) (opened : Option OpenProof) → IsPutBy m.env opened → IsSound m → IsSound (entered_as_admitted m opened)
+admitted_sound m None put is = passed_sound m is
+admitted_sound m (Some o) put is = declared_sound m item.Admitted o.theorem.admitted (waiting_grows m.env o.theorem.admitted put) is
+
+refused_sound : (m : State) (b : Bool) → IsSound m → IsSound (if b then entered_as_admitted m m.opened else passed m)
+refused_sound m true is = admitted_sound m m.opened is.put_by is
+refused_sound m false is = passed_sound m is
+
+after_by : (m : State) (r : Result Reading Stop) (answer : Result Deed Stop) → Told m answer → IsSound m → IsSound (behind m r answer)
+after_by m r (Ok deed) h is = done_sound m deed (h deed refl) is
+after_by m r (Err stop) h is = refused_sound m (is_end_of r) is
 
 -- a row of a well formed environment is grounded
 grounded_by : (env : List Slot) → WfEnv env → (place : ℕ) (granted : Bool) → place < length env → is_assumption env place ≡ granted →
@@ -259,8 +384,10 @@ grounded_by env wf place false there kind = entries_are_grounded.others env wf p
 pub states_are_sound : StatesAreSound
 states_are_sound =
     record {
-      first = λ env wf. record { environment = wf; rows = λ k d h. absurd (omega arith) };
-      formed = λ m s is. formed_by m (whole_run m s).answer (λ deed e. (sentence_does m.env NESTING_LIMIT s.kind s.text).tells _ deed e) is;
-      after = λ m s is. after_by m (whole_run m s).answer (λ deed e. (sentence_does m.env NESTING_LIMIT s.kind s.text).tells _ deed e) is;
+      first = λ env wf. record { environment = wf; rows = λ k d h. absurd (omega arith); put_by = tt };
+      formed = λ m s is put. formed_by m (reading s.kind s.text) (whole_run m s).answer put
+          (λ deed e. (sentence_does m.env NESTING_LIMIT m.opened put s.kind s.text).tells _ deed e) is;
+      after = λ m s is. after_by m (reading s.kind s.text) (whole_run m s).answer
+          (λ deed e. (sentence_does m.env NESTING_LIMIT m.opened is.put_by s.kind s.text).tells _ deed e) is;
       grounded = λ m is k d lt. let row = is.rows k d lt in grounded_by m.env is.environment _ _ row.there row.kind;
     }

@@ -57,8 +57,8 @@ decided run units n law all = good run (min (units - 1) n) n law (granted units 
 
 pub one_run_decides : OneRunDecides
 one_run_decides m s units one =
-    let run = sentence_run m.env NESTING_LIMIT s.kind s.text in
-    let law : KeepsLawOfFuel run = fuel_of_sentences m.env NESTING_LIMIT s.kind s.text in
+    let run = sentence_run m.env NESTING_LIMIT m.opened s.kind s.text in
+    let law : KeepsLawOfFuel run = fuel_of_sentences m.env NESTING_LIMIT m.opened s.kind s.text in
     record {
       short = λ e lt. costs_more units (grant units) UNIT_LIMIT (run UNIT_LIMIT).left refl lt (short run (grant units) UNIT_LIMIT law lt e);
       fits = λ all. costs_less units (grant units) UNIT_LIMIT (run (grant units)).left (run UNIT_LIMIT).left refl one

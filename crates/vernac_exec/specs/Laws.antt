@@ -84,16 +84,16 @@ unsolved_count _ = 0
 abbrev pub Agrees : List GoalStatus → FocusState → Type 0
 Agrees goals focus = (n : ℕ) → times n (all_goals focus) ≡ unsolved_count (slice_get goals n)
 
--- the proof under way began at a sentence before, and its focus has exactly its unsolved goals
-abbrev pub IsUnderWay : ℕ → Option OpenProof → Type 0
-IsUnderWay count None = Unit {0}
-IsUnderWay count (Some o) = (o.first ≤ count) × Agrees o.proof.goals o.focus
+-- the focus of the proof under way has exactly its unsolved goals
+abbrev pub IsUnderWay : Option OpenProof → Type 0
+IsUnderWay None = Unit {0}
+IsUnderWay (Some o) = Agrees o.proof.goals o.focus
 
 -- what is true of each state that sentences reach
 pub record IsReached (m : State) : Type 0 where
   pub environment : IsEnvironment m.env
   pub put_by : PutsBy m.env m.opened
-  pub under_way : IsUnderWay m.count m.opened
+  pub under_way : IsUnderWay m.opened
 
 -- what a sentence leaves
 pub record SentencesKeepStates : Type 0 where
