@@ -1,4 +1,3 @@
 pub mod CallLaws
 pub mod DeclareCalls
-pub mod UniteLaws
 pub mod SoundLaws

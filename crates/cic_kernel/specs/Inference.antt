@@ -70,8 +70,3 @@ pub record IsArrowIn (env : List Slot) (ctx : List Hyp) (p : Arrow) : Type 0 whe
   pub domain : IsTermIn env ctx p.domain
   pub codomain : IsScoped (suc (length ctx)) (length env) p.codomain
   pub names : AreNames (length env) p.used
-
--- the first list has each place of the second
-abbrev pub HasEach : List ℕ → List ℕ → Type 0
-HasEach all [] = Unit {0}
-HasEach all (p ∷ ps) = IsTrue (has all p) × HasEach all ps

@@ -8,10 +8,9 @@ ghost use Rattle.cic_kernel.specs.Declarations.{assume_with, define_with, checke
 
 use crate::inference::{check, infer, refusal, sort_of};
 use crate::kernel::Kernel;
-use crate::names::unite;
 use base_core::refusal_codes::NAME_TAKEN;
 use base_core::{NoMem, NumberList, Stop, Text};
-use cic_rules::{Context, Decl, Entry, EntryKind, Fuel, GlobalEnv, InductiveDecl};
+use cic_rules::{Context, Decl, Entry, EntryKind, Fuel, GlobalEnv, InductiveDecl, unite};
 use core_term::Term;
 use inductive_check::{check_inductive, eliminators};
 use std::alloc::Global;

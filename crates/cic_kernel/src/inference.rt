@@ -14,14 +14,13 @@ ghost use Rattle.cic_rules.specs.Scopes.{AreNames, IsJudged};
 ghost use Rattle.cic_rules.specs.declared.judge.Mode.TheVariants.{Below};
 ghost use Rattle.cic_kernel.specs.Inference.{Infers, table_of, begun_with, as_arrow_with, variable_run, sort_run, global_run, sized, Answers, IsArrowIn};
 
-use crate::names::unite;
 use base_core::refusal_codes::{
     NOT_A_FUNCTION, NOT_A_TYPE, TYPE_MISMATCH, UNBOUND, UNIVERSE_TOO_LARGE,
 };
 use base_core::{Limit, NumberList, Place, Refusal, Stop, Text};
 use cic_rules::{
     Answer, Arrow, Context, Fuel, GlobalEnv, Hyp, Inferred, InferredSort, Mode, compare_cost,
-    type_of_sort,
+    type_of_sort, unite,
 };
 use conversion::{conv, whnf};
 use core_term::{Node, Sort, Term, product_sort};

@@ -4,6 +4,5 @@
 mod declarations;
 mod inference;
 mod kernel;
-mod names;
 
 pub use kernel::{Kernel, check, declare, infer};

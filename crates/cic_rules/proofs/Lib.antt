@@ -24,4 +24,5 @@ pub mod ScopeLaws
 pub mod ShapeLaws
 pub mod TellsLaws
 pub mod UnionLaws
+pub mod UniteLaws
 pub mod UsedLaws

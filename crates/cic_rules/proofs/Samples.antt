@@ -29,7 +29,7 @@ abbrev pub A : Tree
 A = Constant 0
 
 -- let x : Prop := A in x
-whnf_let : whnf_at ASSUMED true 2000 [] (LetIn X (Sorted PropSort) A (Var 0)) 1000000 ≡ pure A 999999
+pub whnf_let : whnf_at ASSUMED true 2000 [] (LetIn X (Sorted PropSort) A (Var 0)) 1000000 ≡ pure A 999999
 unfolding repeat whnf_at
 whnf_let = refl
 

@@ -18,5 +18,6 @@ pub mod WellFormed
 pub mod Grounded
 pub mod EnterFamily
 pub mod Judges
+pub mod Unions
 pub mod Calls
 pub mod Laws

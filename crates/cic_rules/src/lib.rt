@@ -30,4 +30,4 @@ pub use laws::{
 };
 pub use rows::row_of;
 pub use shapes::FamilyShape;
-pub use unions::union;
+pub use unions::{has_all, union, unite};

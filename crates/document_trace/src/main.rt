@@ -1,5 +1,5 @@
-//! Tells what each sentence of the document on standard input costs and what is told of it, and last
-//! what the document declares. Tests compare it: `check` says nothing of costs.
+//! Tells what each sentence of the document on standard input costs, what is told of it and which goals stand behind
+//! it, and last what the document declares. Tests compare it: `check` says nothing of costs and goals.
 #![tactic(auto)]
 
 ghost use Rattle.std.specs.Prelude.{◌≡◌, ◌<◌, ◌≤◌, length};

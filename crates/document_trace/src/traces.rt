@@ -3,7 +3,7 @@ ghost use Rattle.std.specs.Prelude.{◌≡◌, ◌<◌, ◌≤◌, All, length, 
 ghost use Rattle.base_core.specs.declared.limits.TheConstants.{TEXT_LIMIT};
 ghost use Rattle.sentence_split.specs.Within.{IsSpanOf};
 
-use crate::lines::{add_diag, add_item, add_left_open, add_sentence};
+use crate::lines::{add_diag, add_goals, add_item, add_left_open, add_sentence};
 use base_core::{COST_LIMIT, NoMem, Steps};
 use prover_iface::{Outcome, Prover};
 use sentence_split::{Span, split};
@@ -29,6 +29,9 @@ fn run_sentence<P: Prover, C: Ledger>(
             add_sentence(lines, span.kind, cost, sentence)?;
             for diag in diags.as_slice() {
                 add_diag(lines, diag)?;
+            }
+            if let Some(goals) = prover.goals(alloc, &state)? {
+                add_goals(lines, &goals)?;
             }
             Ok(state)
         }
@@ -75,8 +78,8 @@ fn lines_of<P: Prover, C: Ledger>(
     Ok(lines)
 }
 
-/// The lines of a text: each sentence with its cost, each followed by what is told of it, and last what
-/// the text declares.
+/// The lines of a text: each sentence with its cost, each followed by what is told of it and by the goals behind
+/// it, and last what the text declares.
 pub fn traced<C: Ledger, P: Prover>(
     alloc: Global,
     prover: &P,

@@ -16,13 +16,13 @@ use Rattle.matching.specs.Match.{set_value, if_matched, match_under, match_binde
 use Rattle.matching.specs.Laws.{Extends, MatchesExtend}
 
 -- what is found extends the values, if anything is found
-abbrev Kept : Values → Option Values → Type 0
+abbrev pub Kept : Values → Option Values → Type 0
 Kept values found = IfSome found (Extends values)
 
-same_values : (values : Values) → Extends values values
+pub same_values : (values : Values) → Extends values values
 same_values values = record { count = refl; kept = λ at v e. e }
 
-more_values : (values found last : Values) → Extends values found → Extends found last → Extends values last
+pub more_values : (values found last : Values) → Extends values found → Extends found last → Extends values last
 more_values values found last a b = record { count = b.count ∙ a.count; kept = λ at v e. b.kept at v (a.kept at v e) }
 
 pub set_count : (values : Values) (at : ℕ) (v : Option Tree) → length (slice_set values at v) ≡ length values
@@ -40,11 +40,11 @@ set_kept (None ∷ values) zero v vacant (suc at) w e = e
 set_kept (x ∷ values) (suc place) v vacant zero w e = e
 set_kept (x ∷ values) (suc place) v vacant (suc at) w e = set_kept values place v vacant at w e
 
-set_extends : (values : Values) (at : ℕ) (v : Option Tree) → is_open (slice_get values at) ≡ true → Kept values (set_value values at v)
+pub set_extends : (values : Values) (at : ℕ) (v : Option Tree) → is_open (slice_get values at) ≡ true → Kept values (set_value values at v)
 set_extends values at None vacant = tt
 set_extends values at (Some v) vacant = record { count = set_count values at (Some v); kept = set_kept values at v vacant }
 
-unset_open : (values : Values) (i binders : ℕ) (b : Bool) → nat_lt i binders ≡ b →
+pub unset_open : (values : Values) (i binders : ℕ) (b : Bool) → nat_lt i binders ≡ b →
     (if b then false else is_open (slice_get values (i - binders))) ≡ true → is_open (slice_get values (i - binders)) ≡ true
 unset_open values i binders true is e = cc
 unset_open values i binders false is e = e
@@ -90,7 +90,7 @@ settled : (values : Values) (same : Bool) → Kept values (if same then Some val
 settled values true = same_values values
 settled values false = tt
 
-any : {A : Type 0} (f : Run A) → Tells f (λ _. Unit {0})
+pub any : {A : Type 0} (f : Run A) → Tells f (λ _. Unit {0})
 any f = record { tells = λ left x e. tt }
 
 tells_filled : (env : List Slot) (calls : ℕ) (ctx : List Hyp) (p t : Tree) (values : Values) → Tells (match_filled env calls ctx p t values) (Kept values)

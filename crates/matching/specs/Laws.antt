@@ -1,12 +1,12 @@
 -- Laws of the definitions.
-use Rattle.std.specs.Prelude.{◌≡◌, ℕ, List, length, Some, slice_get, IfSome}
+use Rattle.std.specs.Prelude.{◌≡◌, ℕ, List, length, false, Some, slice_get, IfSome}
 use Rattle.core_term.specs.Tree.{Tree}
 use Rattle.core_term.specs.Places.{lift_of}
 use Rattle.cic_rules.specs.declared.context.Hyp.{Hyp}
 use Rattle.cic_rules.specs.declared.env.Slot.{Slot}
 use Rattle.cic_rules.specs.Laws.{KeepsLawOfFuel, Tells}
 use Rattle.matching.specs.Lowering.{without_binders}
-use Rattle.matching.specs.Patterns.{Values}
+use Rattle.matching.specs.Patterns.{Values, has_unset}
 use Rattle.matching.specs.Match.{match_at}
 
 -- a match under a lower limit
@@ -26,3 +26,8 @@ pub record Extends (values found : Values) : Type 0 where
 abbrev pub MatchesExtend : Type 0
 MatchesExtend = (env : List Slot) (calls : ℕ) (ctx : List Hyp) (binders : ℕ) (p t : Tree) (values : Values) →
     Tells (match_at env calls ctx binders p t values) (λ found. IfSome found (Extends values))
+
+-- a match leaves no variable of its pattern unset
+abbrev pub MatchesSettle : Type 0
+MatchesSettle = (env : List Slot) (calls : ℕ) (ctx : List Hyp) (binders : ℕ) (p t : Tree) (values : Values) →
+    Tells (match_at env calls ctx binders p t values) (λ found. IfSome found (λ vs. has_unset vs p binders ≡ false))

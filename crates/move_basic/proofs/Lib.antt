@@ -4,7 +4,9 @@ pub mod Hypotheses
 pub mod Lists
 pub mod Assumed
 pub mod Arguments
+pub mod Parameters
 pub mod Constructed
 pub mod Openings
 pub mod Equations
+pub mod Givings
 pub mod Samples

@@ -2,6 +2,7 @@
 use Rattle.std.specs.Prelude.{ℕ, ◌-◌, List, Bool, Option, None, Some}
 use Rattle.coq_syntax.specs.declared.words.Word.{Word}
 use Rattle.coq_syntax.specs.MoveTrees.{Move}
+use Rattle.coq_syntax.specs.Trees.{Term}
 use Rattle.core_term.specs.Tree.{Tree}
 use Rattle.cic_rules.specs.declared.context.Hyp.{Hyp}
 use Rattle.cic_rules.specs.declared.env.Slot.{Slot}
@@ -20,7 +21,7 @@ use Rattle.move_basic.specs.Terms.{exact, tried, assumed, assumption}
 use Rattle.move_basic.specs.Apply.{matched, last_match, first_match, match_at_end, argument_by, argument, with_arguments, is_used_later, apply, apply_to_all}
 use Rattle.move_basic.specs.Constructors.{construct}
 use Rattle.move_basic.specs.Equality.{by_sides, reflexivity}
-use Rattle.move_basic.specs.Moves.{run_basic, run_move}
+use Rattle.move_basic.specs.Moves.{by_exact, by_apply, run_basic, run_move}
 
 module _ (env : List Slot) (ctx : List Hyp) (ty : Tree) where
   abbrev pub opened_with : FuelState → Ran Opening
@@ -104,6 +105,13 @@ next_argument env calls ctx values count a b function = do
 
 abbrev pub next_argument_with : List Slot → List Hyp → Values → ℕ → Tree → Tree → Partial Goal → FuelState → Ran (Partial Goal)
 next_argument_with env ctx values count a b function f = next_argument env (calls_left f) ctx values count a b function (left f)
+
+-- a written term that is given for a goal, or applied to it
+abbrev pub by_exact_with : List Slot → Goal → Term → FuelState → Ran Filling
+by_exact_with env g s f = by_exact env (calls_left f) g s (left f)
+
+abbrev pub by_apply_with : List Slot → Goal → Term → FuelState → Ran Filling
+by_apply_with env g s f = by_apply env (calls_left f) g s (left f)
 
 abbrev pub basic_with : List Slot → Goal → Move → FuelState → Ran Filling
 basic_with env g m f = run_basic env (calls_left f) g m (left f)

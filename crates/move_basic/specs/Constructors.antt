@@ -1,8 +1,8 @@
 -- A constructor for a goal whose type is inductive.
-use Rattle.std.specs.Prelude.{ℕ, ◌+◌, ◌==◌, nat_lt, List, length, true, Option, Some, None, Ok, Err, if◌then◌else◌, slice_get}
+use Rattle.std.specs.Prelude.{ℕ, ◌==◌, List, length, take, true, Option, Some, None, Ok, Err, if◌then◌else◌, slice_get}
 use Rattle.base_core.specs.declared.refusals.Place.TheVariants.{Whole}
-use Rattle.core_term.specs.Tree.{Tree, Constant, App, is_small}
-use Rattle.term_spine.specs.Spine.{head_of}
+use Rattle.core_term.specs.Tree.{Tree, Constant, is_small}
+use Rattle.term_spine.specs.Spine.{head_of, arguments_of, apply_all}
 use Rattle.cic_rules.specs.declared.context.Hyp.{Hyp}
 use Rattle.cic_rules.specs.declared.decls.Ctor.{Ctor}
 use Rattle.cic_rules.specs.declared.decls.InductiveDecl.{InductiveDecl}
@@ -10,7 +10,7 @@ use Rattle.cic_rules.specs.declared.env.Slot.{Slot}
 use Rattle.cic_rules.specs.Environments.{decl_at, place_in}
 use Rattle.cic_rules.specs.Reduce.{whnf_at}
 use Rattle.cic_rules.specs.Runs.{Run, ◌>>=◌}
-use Rattle.cic_rules.specs.Steps.{Step, TooLarge, step_then, refuse_step, take_step}
+use Rattle.cic_rules.specs.Steps.{Step, TooLarge, refuse_step, take_step}
 use Rattle.proof_state.specs.declared.goals.Goal.{Goal}
 use Rattle.proof_state.specs.Partial.{Partial}
 use Rattle.move_basic.specs.Apply.{apply_to_all}
@@ -25,19 +25,13 @@ place_of env (Some c) = place_in env c.name
 abbrev pub sized : Tree → Step Tree
 sized t = if is_small t then Ok t else Err TooLarge
 
-abbrev pub count_arguments : Tree → ℕ
-count_arguments (App f a) = count_arguments f + 1
-count_arguments t = 0
-
 -- a global applied to the first of the term's arguments, so many
-abbrev pub at_params : ℕ → ℕ → Tree → Step Tree
-at_params params place (App f a) =
-    if nat_lt (count_arguments f) params then step_then (at_params params place f) (λ g. sized (App g a)) else at_params params place f
-at_params params place t = Ok (Constant place)
+abbrev pub at_params : ℕ → ℕ → Tree → Tree
+at_params params place t = apply_all (Constant place) (take params (arguments_of t))
 
 abbrev pub at_place : ℕ → ℕ → Tree → Option ℕ → Step Tree
 at_place code params t None = refuse_step code Whole
-at_place code params t (Some place) = at_params params place t
+at_place code params t (Some place) = sized (at_params params place t)
 
 -- of an inductive type with so many constructors, the one with an index, at the parameters; else the refusal
 abbrev pub constructor_by : List Slot → ℕ → ℕ → ℕ → Tree → Option InductiveDecl → Step Tree

@@ -1,11 +1,13 @@
 //! A constructor for a goal whose type is inductive.
-ghost use Rattle.std.specs.Prelude.{◌≡◌, ◌≤◌, IfOk};
+ghost use Rattle.std.specs.Prelude.{◌≡◌, ◌-◌, ◌≤◌, length, IfOk};
 ghost use Rattle.base_core.specs.Answers.{Gives};
+ghost use Rattle.core_term.specs.Answers.{within_limits, Gives as Makes};
 ghost use Rattle.core_term.specs.Tree.{depth_of};
+ghost use Rattle.term_spine.specs.Spine.{arguments_of};
 ghost use Rattle.cic_rules.specs.Fuel.{left, IsSpentOf};
 ghost use Rattle.cic_rules.specs.Judges.{MayJudge, IsTermIn, Meets};
 ghost use Rattle.cic_rules.specs.Steps.{answer_of};
-ghost use Rattle.move_basic.specs.Constructors.{count_arguments, at_params, constructor_term};
+ghost use Rattle.move_basic.specs.Constructors.{at_params, constructor_term};
 ghost use Rattle.proof_state.specs.Scopes.{IsSketchIn};
 ghost use Rattle.move_basic.specs.Calls.{construct_with};
 
@@ -13,7 +15,7 @@ use crate::applying::apply_to_all;
 use crate::refusals::refusal;
 use base_core::Stop;
 use cic_rules::{Context, Fuel, GlobalEnv, Judge};
-use core_term::{Node, Term};
+use core_term::{Node, Term, TermStop};
 use fresh_names::head_constant;
 use proof_state::{Goal, Sketch};
 use std::alloc::Global;
@@ -71,24 +73,37 @@ fn constructor_term(
         return Err(refusal(code));
     };
     match env.place_of(&ctor.name) {
-        Some(place) => at_params(alloc, decl.params.as_slice().len(), place, t),
+        Some(place) => Ok(at_params(alloc, decl.params.as_slice().len(), place, t)?),
         None => Err(refusal(code)),
     }
 }
 
 /// A global applied to the first of the term's arguments, so many.
-fn at_params(alloc: Global, params: usize, place: u32, t: &Term) -> Result<Term, Stop>
-    ensures { Gives result (answer_of (at_params params place t.now)) }
+#[tactic(auto, using(crate::proofs::Parameters::all_kept, crate::proofs::Parameters::last_dropped))]
+fn at_params(alloc: Global, params: usize, place: u32, t: &Term) -> Result<Term, TermStop>
+    ensures { Makes result (within_limits (at_params params place t.now)) }
+{
+    let count = count_arguments(t) as usize;
+    if count <= params {
+        return at_all_but(alloc, 0, place, t);
+    }
+    at_all_but(alloc, count - params, place, t)
+}
+
+/// A global applied to all but the last of the term's arguments, so many.
+#[tactic(auto, using(crate::proofs::Parameters::without_last, crate::proofs::Parameters::with_last, crate::proofs::Parameters::stop_kept))]
+fn at_all_but(alloc: Global, last: usize, place: u32, t: &Term) -> Result<Term, TermStop>
+    ensures { Makes result (within_limits (at_params (length (arguments_of t.now) - last) place t.now)) }
 {
     match t.node() {
         Node::App { function, argument } => {
-            if count_arguments(function) as usize >= params {
-                return at_params(alloc, params, place, function);
+            if last > 0 {
+                return at_all_but(alloc, last - 1, place, function);
             }
-            match at_params(alloc, params, place, function) {
+            match at_all_but(alloc, 0, place, function) {
                 Ok(applied) => {
                     let argument = argument.share()?;
-                    Ok(Term::app(alloc, applied, argument)?)
+                    Term::app(alloc, applied, argument)
                 }
                 Err(stop) => Err(stop),
             }
@@ -103,7 +118,7 @@ fn at_params(alloc: Global, params: usize, place: u32, t: &Term) -> Result<Term,
 }
 
 fn count_arguments(t: &Term) -> u32
-    ensures count { result ≡ count_arguments t.now }
+    ensures count { result ≡ length (arguments_of t.now) }
     ensures few { result ≤ depth_of t.now }
 {
     let _depth = t.depth();

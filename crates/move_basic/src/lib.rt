@@ -7,8 +7,10 @@ mod constructing;
 mod equality;
 mod introduction;
 mod laws;
+mod moves;
 mod opening;
 mod refusals;
 mod whole_terms;
 
 pub use laws::law_of_fuel;
+pub use moves::run_basic;

@@ -15,9 +15,9 @@ use Rattle.proof_state.specs.declared.state.Filling.TheVariants.{Give, Admit}
 use Rattle.proof_state.specs.declared.state.Refined.{Refined}
 use Rattle.proof_state.specs.Partial.{Partial, Ready, Hole, Abstracts, Defines, Applies, holes, numbered, filling, fill}
 use Rattle.proof_state.specs.Proof.{GoalStatus, Unsolved, GivenUp, Solved, Proof}
-use Rattle.proof_state.specs.Steps.{started, only_unsolved, goal_if_any, goal_at, unnamed, unnamed_hyp, StandsIn, Fits, MayFill, abandoned_at, abandoned, filled, refined, refined_by}
+use Rattle.proof_state.specs.Steps.{started, only_unsolved, unsolved_at, goal_if_any, goal_at, unnamed, unnamed_hyp, StandsIn, Fits, MayFill, abandoned_at, abandoned, filled, refined, refined_by}
 use Rattle.proof_state.specs.IsProof.{times, holes_of, told_of, IsThere, Stand, HaveGoals, IsProof}
-use Rattle.proof_state.specs.Laws.{StepsKeepProofs, StepsKeepGoals, WholeWhereSolved, UnsolvedMayBeFilled}
+use Rattle.proof_state.specs.Laws.{StepsKeepProofs, StepsKeepGoals, StepsCloseGoals, WholeWhereSolved, UnsolvedMayBeFilled}
 use Rattle.proof_state.proofs.Numbers.{Compared, Same, Other, compare}
 use Rattle.proof_state.proofs.HoleLaws.{filling_here, filling_other}
 use Rattle.proof_state.proofs.Counts.{one_if, one_same, one_other, times_append, times_filled, holes_numbered, times_before, times_past, times_within}
@@ -385,6 +385,53 @@ pub steps_keep_goals : StepsKeepGoals
 steps_keep_goals = record {
   others = others_by;
   new = λ p n k s g found. get_new p.goals (map Unsolved (holes s)) n k Solved ∙ get_unsolved (holes s) k g found;
+}
+
+-- what a step does with its goal
+
+set_gone : (goals gs : List GoalStatus) (n : ℕ) → n < length goals → slice_get (slice_set goals n Solved ++ gs) n ≡ Some Solved
+set_gone [] gs n before = absurd (omega arith)
+set_gone (x ∷ goals) gs zero before = refl
+set_gone (x ∷ goals) gs (suc n) before = set_gone goals gs n (omega arith)
+
+given_gone : (p : Proof) (n : ℕ) (s : Partial Goal) (b : Bool) (r : Refined) → (if b then Ok (refined n s p) else Err (Out SizeLimit)) ≡ Ok r →
+    n < length p.goals → slice_get r.proof.goals n ≡ Some Solved
+given_gone p n s true r done before =
+    let e : refined n s p ≡ r = cc in
+    subst (λ (x : Refined). slice_get x.proof.goals n ≡ Some Solved) e (set_gone p.goals (map Unsolved (holes s)) n before)
+given_gone p n s false r done before = cc
+
+same_goal : (goals : List GoalStatus) (n : ℕ) → goal_at (abandoned_at goals n) n ≡ goal_at goals n
+same_goal [] n = refl
+same_goal (Unsolved g ∷ goals) zero = refl
+same_goal (GivenUp g ∷ goals) zero = refl
+same_goal (Solved ∷ goals) zero = refl
+same_goal (x ∷ goals) (suc n) = same_goal goals n
+
+no_unsolved : (goals : List GoalStatus) (n : ℕ) → unsolved_at (abandoned_at goals n) n ≡ None
+no_unsolved [] n = refl
+no_unsolved (Unsolved g ∷ goals) zero = refl
+no_unsolved (GivenUp g ∷ goals) zero = refl
+no_unsolved (Solved ∷ goals) zero = refl
+no_unsolved (x ∷ goals) (suc n) = no_unsolved goals n
+
+given_up_same : (p : Proof) (n : ℕ) (r : Refined) → refined_by p n Admit ≡ Ok r → goal_at r.proof.goals n ≡ goal_at p.goals n
+given_up_same p n r done =
+    let e : record { proof = abandoned n p; goals = [] } ≡ r = cc in
+    subst (λ (x : Refined). goal_at x.proof.goals n ≡ goal_at p.goals n) e (same_goal p.goals n)
+
+closed_by : (p : Proof) (n : ℕ) (by : Filling) (r : Refined) → n < length p.goals → refined_by p n by ≡ Ok r → unsolved_at r.proof.goals n ≡ None
+closed_by p n (Give s) r before done =
+    ap only_unsolved (given_gone p n s (nat_le (length p.goals + length (holes s)) GOAL_LIMIT) r done before)
+closed_by p n Admit r before done =
+    let e : record { proof = abandoned n p; goals = [] } ≡ r = cc in
+    subst (λ (x : Refined). unsolved_at x.proof.goals n ≡ None) e (no_unsolved p.goals n)
+
+pub steps_close_goals : StepsCloseGoals
+steps_close_goals = record {
+  solved = λ p n s r before done. ap goal_if_any (given_gone p n s (nat_le (length p.goals + length (holes s)) GOAL_LIMIT) r done before);
+  given_up = given_up_same;
+  closed = closed_by;
 }
 
 -- a proof without open goals has no hole

@@ -6,3 +6,4 @@ pub mod Counts
 pub mod Keeps
 pub mod States
 pub mod Closes
+pub mod GoalScopes

@@ -13,6 +13,6 @@ mod sketch;
 mod state;
 
 pub use goals::{GOAL_LIMIT, Goal};
-pub use laws::law_of_steps;
+pub use laws::{law_of_scopes, law_of_steps};
 pub use sketch::{Sketch, SketchNode};
 pub use state::{Filling, ProofState, Refined};

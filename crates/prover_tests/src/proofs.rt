@@ -5,7 +5,7 @@ ghost use Rattle.proof_state.specs.Steps.{Fits, MayFill};
 ghost use Rattle.proof_state.specs.Proof.{Unsolved};
 ghost use Rattle.proof_state.specs.IsProof.{IsGoal};
 
-use base_core::Text;
+use base_core::{Limit, Stop, Text};
 use cic_rules::Context;
 use core_term::{Node, Sort, Term};
 use proof_state::{Filling, Goal, ProofState, Refined, Sketch};
@@ -101,7 +101,10 @@ const CASES: [Case; 6] = [
 ];
 
 /// How many steps the long proof has.
-const MANY: u32 = 10_000;
+const MANY: u32 = 100_000;
+
+/// How many functions may stand in one another around a global.
+const DEEPEST: u32 = 999;
 
 fn first(alloc: Global) -> Result<ProofState, Fail> {
     let statement = Term::sort(alloc, Sort::PropSort)?;
@@ -148,7 +151,7 @@ fn function(alloc: Global, goal: &Goal) -> Result<Sketch<Goal>, Fail>
     Ok(sketch)
 }
 
-fn state_of(refined: Result<Refined, base_core::Stop>) -> Result<ProofState, Fail> {
+fn state_of(refined: Result<Refined, Stop>) -> Result<ProofState, Fail> {
     match refined {
         Ok(refined) => Ok(refined.proof),
         Err(_) => Err(Fail::from("a step ended")),
@@ -258,6 +261,32 @@ fn many_steps(alloc: Global) -> Result<ProofState, Fail> {
         proof = take_step(alloc, &proof, n, How::Same)?;
     }
     take_step(alloc, &proof, MANY, How::Global(0))
+}
+
+/// So many functions in one another.
+fn functions(alloc: Global, count: u32) -> Result<ProofState, Fail> {
+    let mut proof = first(alloc)?;
+    for n in 0..count {
+        proof = take_step(alloc, &proof, n, How::Function)?;
+    }
+    take_step(alloc, &proof, count, How::Global(0))
+}
+
+/// Whether the whole term of a proof without goals is too large.
+fn is_too_large(alloc: Global, proof: &ProofState) -> bool {
+    if proof.is_whole() {
+        return matches!(proof.close(alloc), Err(Stop::Out(Limit::SizeLimit)));
+    }
+    false
+}
+
+#[test]
+fn terms_at_the_limit_of_depth(rt: HostRuntime) -> Result<(), Fail> {
+    let alloc = rt.alloc();
+    let deepest = whole(alloc, &functions(alloc, DEEPEST)?)?;
+    assert_eq!(&rt; deepest.len(), 1999);
+    assert_eq!(&rt; is_too_large(alloc, &functions(alloc, DEEPEST + 1)?), true);
+    Ok(())
 }
 
 #[test]

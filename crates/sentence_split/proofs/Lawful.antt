@@ -14,6 +14,7 @@ use Rattle.sentence_split.specs.Items.{Items, End, Comment, Byte, spells, begins
 use Rattle.sentence_split.specs.Split.{is_bullet, is_sign, Ends, EndsFirst, IsRun, BeginsNoSign, IsSentence, BeginsSentence, IsSplit}
 use Rattle.sentence_split.specs.Scan.{sentence_end, comment_end}
 use Rattle.sentence_split.specs.Sentences.{plain_piece, comment_piece, first_piece, sentences}
+use Rattle.sentence_split.specs.Pieces.{piece_len}
 use Rattle.sentence_split.proofs.Passing.{sentences-gap, sentences-sentence}
 use Rattle.sentence_split.proofs.Passes.{spells-append, length-spells, none_some, ends_first, ends_never, commented, comment_found, Commented}
 
@@ -232,6 +233,12 @@ on_blank true b rest e =
     let is : first_piece b rest ≡ Gap 1 = rw e refl in
     subst (IsLawful (b ∷ rest)) (sym is) (blank_gap b rest e)
 on_blank false b rest e = on_bullet (is_bullet b) b rest e refl
+
+-- a piece has some of the bytes
+pub piece_sizes : (b : ℕ) (rest : List ℕ) (p : Piece) → IsLawful (b ∷ rest) p → (0 < piece_len p) × (piece_len p ≤ suc (length rest))
+unfolding IsLawful
+piece_sizes b rest (Gap len) h = (h.some, h.within)
+piece_sizes b rest (Sentence kind len) h = (h.some, h.within)
 
 -- what begins with a byte is a gap or a sentence
 pub piece_law : (b : ℕ) (rest : List ℕ) → IsLawful (b ∷ rest) (first_piece b rest)

@@ -5,3 +5,5 @@ pub mod Passes
 pub mod Lawful
 pub mod Cuts
 pub mod Unique
+pub mod Local
+pub mod Resumed

@@ -128,7 +128,7 @@ pub ends_never : (text : List ℕ) → sentence_end text ≡ None → (other : L
 ends_never text h other e = let s = stopped_at text other e in none_some s.at (sym h ∙ s.is)
 
 -- a closed comment, from what the scan found
-same_text : (text rest : List ℕ) → ◌≡◌ {A = Option (List ℕ)} (Some text) (Some rest) → text ≡ rest
+pub same_text : (text rest : List ℕ) → ◌≡◌ {A = Option (List ℕ)} (Some text) (Some rest) → text ≡ rest
 same_text text rest e = cc
 
 pub record Commented (b : ℕ) (text rest : List ℕ) : Type 0 where

@@ -15,7 +15,7 @@ pass (b ∷ rest) at (suc k) h =
     let n : at + 1 + k ≡ at + suc k = omega arith in
     pass rest (at + 1) k (omega arith) ∙ ap (λ m. sentences m 0 (drop k rest)) n
 
-pass_front : (b : ℕ) (rest : List ℕ) (at n : ℕ) → 0 < n → n ≤ length (b ∷ rest) → sentences (at + 1) (n - 1) rest ≡ sentences (at + n) 0 (drop n (b ∷ rest))
+pub pass_front : (b : ℕ) (rest : List ℕ) (at n : ℕ) → 0 < n → n ≤ length (b ∷ rest) → sentences (at + 1) (n - 1) rest ≡ sentences (at + n) 0 (drop n (b ∷ rest))
 pass_front b rest at zero some h = absurd (omega arith)
 pass_front b rest at (suc m) some h =
     let one : suc m - 1 ≡ m = omega arith in

@@ -60,7 +60,7 @@ step-quote d b rest e f g = rw (e, f, g) refl
 pub step-byte : (d b : ℕ) (rest : List ℕ) → opens b rest ≡ false → closes b rest ≡ false → (eqb b 34) ≡ false → item_step (suc d) b rest ≡ state (suc d) Item
 step-byte d b rest e f g = rw (e, f, g) refl
 
-flat-open : (b : ℕ) (rest : List ℕ) → opens b rest ≡ true → item_step 0 b rest ≡ state 1 Second
+pub flat-open : (b : ℕ) (rest : List ℕ) → opens b rest ≡ true → item_step 0 b rest ≡ state 1 Second
 flat-open b rest e = rw e refl
 
 flat-quote : (b : ℕ) (rest : List ℕ) → opens b rest ≡ false → (eqb b 34) ≡ true → item_step 0 b rest ≡ state 0 Quoted

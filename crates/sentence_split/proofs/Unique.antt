@@ -1,5 +1,5 @@
 -- A text has one split.
-use Rattle.std.proofs.Common.{◌≡◌, ℕ, ◌+◌, ◌-◌, ◌<◌, ◌≤◌, Bool, true, false, cond, eqb, Option, None, Some, List, [], ◌∷◌, ◌++◌, ◌||◌, length, take, drop, replicate, length-append, append-nil, zero, suc, refl, sym, ◌∙◌, ap, subst, arith}
+use Rattle.std.proofs.Common.{◌≡◌, ℕ, ◌+◌, ◌-◌, ◌<◌, ◌≤◌, Bool, true, false, cond, eqb, Option, None, Some, List, [], ◌∷◌, ◌++◌, length, drop, replicate, length-append, append-nil, zero, suc, refl, sym, ◌∙◌, ap, subst, arith}
 use Rattle.std.specs.List.{prefix_len}
 use Rattle.std.proofs.lemmas.Bool.Decides.{nat_tests}
 use Rattle.std.proofs.lemmas.List.{length-replicate}
@@ -9,11 +9,11 @@ use Rattle.sentence_split.specs.declared.spans.Span.{Span}
 use Rattle.sentence_split.specs.declared.pieces.Piece.{Piece}
 use Rattle.sentence_split.specs.declared.pieces.Piece.TheVariants.{Gap, Sentence}
 use Rattle.sentence_split.specs.Items.{Items, End, Comment, Quotation, Byte, spells, begins, opens, AreItems, IsGap, is_blank}
-use Rattle.sentence_split.specs.Split.{is_bullet, is_sign, Ends, EndsFirst, IsRun, BeginsNoSign, IsSentence, BeginsSentence, IsNext, IsAllGap, IsSplit}
+use Rattle.sentence_split.specs.Split.{is_bullet, is_sign, Ends, EndsFirst, IsSentence, BeginsSentence, IsSplit}
 use Rattle.sentence_split.specs.Scan.{sentence_end, comment_end}
 use Rattle.sentence_split.specs.Sentences.{plain_piece, comment_piece, first_piece, sentences}
 use Rattle.sentence_split.proofs.Passing.{sentences-gap, sentences-sentence}
-use Rattle.sentence_split.proofs.Passes.{spells-append, length-spells, none_some, stopped_at, ends, commented, comment_found, Commented}
+use Rattle.sentence_split.proofs.Passes.{spells-append, stopped_at, ends, commented, comment_found}
 use Rattle.sentence_split.proofs.Lawful.{split_at}
 
 -- sentences that go on with what stands behind a gap

@@ -4,3 +4,4 @@ pub mod Scan
 pub mod Sentences
 pub mod Pieces
 pub mod Within
+pub mod Resplit

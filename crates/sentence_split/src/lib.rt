@@ -9,4 +9,4 @@ mod spans;
 mod splitting;
 
 pub use spans::{Span, SpanList};
-pub use splitting::{law_of_splits, split};
+pub use splitting::{law_of_splits, resplit, split};

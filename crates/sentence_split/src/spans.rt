@@ -1,5 +1,5 @@
 //! Sentences by their places.
-ghost use Rattle.std.specs.Prelude.{◌≡◌, ◌++◌, [], ◌∷◌, OnOk};
+ghost use Rattle.std.specs.Prelude.{◌≡◌, ◌≤◌, ◌++◌, [], ◌∷◌, take, length, IfOk, OnOk};
 
 use base_core::{Kind, NoMem};
 use std::alloc::Global;
@@ -42,6 +42,16 @@ impl SpanList {
     {
         self.items.push(item)?;
         Ok(())
+    }
+
+    /// The first so many.
+    pub(crate) fn first(&self, alloc: Global, count: usize) -> Result<SpanList, NoMem>
+        requires { count ≤ length self.now }
+        ensures { IfOk result (λ spans. spans ≡ take count self.now) }
+    {
+        let mut items = Vec::new(alloc);
+        items.extend_from_slice(&self.items.as_slice()[..count])?;
+        Ok(SpanList { items })
     }
 
     pub fn as_slice(&self) -> &[Span]

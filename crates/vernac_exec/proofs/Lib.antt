@@ -7,7 +7,6 @@ pub mod StandsOfKernel
 pub mod StandsOfElab
 pub mod StandsOfSentences
 pub mod ProverLaws
-pub mod ListedAxioms
 pub mod ShownRows
 pub mod FamilyLaws
 pub mod NameLaws

@@ -11,7 +11,6 @@ pub mod Outline
 pub mod Views
 pub mod Laws
 pub mod ProverLaws
-pub mod Listed
 pub mod Calls
 pub mod Answers
 pub mod Soundness

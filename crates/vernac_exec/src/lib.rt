@@ -2,7 +2,6 @@
 //! A state has the environment, the outline, and the proof under way, if there is one.
 #![tactic(auto)]
 
-mod axioms;
 mod commands;
 mod deed;
 mod diagnostics;

@@ -1,11 +1,12 @@
 //! The outline of a state, as it is shown.
-ghost use Rattle.std.specs.Prelude.{◌≡◌, IfOk};
+ghost use Rattle.std.specs.Prelude.{◌≡◌, length, IfOk};
+ghost use Rattle.axiom_lists.specs.Lists.{axioms_before};
 ghost use Rattle.cic_rules.specs.Environments.{type_of_global};
 ghost use Rattle.term_print.specs.Show.{global_name, global_names};
 ghost use Rattle.vernac_exec.specs.Outline.{statement_text, item, outline_of};
 
-use crate::axioms::axioms;
 use crate::state::{ProverState, Row};
+use axiom_lists::{AxiomList, axiom_lists, axioms_of};
 use base_core::{NoMem, Text, TextList};
 use cic_rules::{Context, GlobalEnv};
 use prover_iface::{OutlineItem, OutlineList};
@@ -17,25 +18,31 @@ impl ProverState {
     pub fn outline(&self, alloc: Global) -> Result<OutlineList, NoMem>
         ensures { IfOk result (λ outline. outline ≡ outline_of self.now) }
     {
+        let lists = axiom_lists(alloc, &self.state.env)?;
         let mut outline = OutlineList::new(alloc);
         for i in 0..self.state.outline.len() {
             let Some(row) = self.state.outline.get(i) else {
                 unreachable!()
             };
-            outline.push(item(alloc, &self.state.env, row)?)?;
+            outline.push(item(alloc, &self.state.env, lists.as_slice(), row)?)?;
         }
         Ok(outline)
     }
 }
 
 /// A declaration with its name, its type, and the names of the axioms that it rests on.
-fn item(alloc: Global, env: &GlobalEnv, row: &Row) -> Result<OutlineItem, NoMem>
+fn item(
+    alloc: Global,
+    env: &GlobalEnv,
+    lists: &[AxiomList],
+    row: &Row,
+) -> Result<OutlineItem, NoMem>
+    requires { lists.now ≡ axioms_before env.now (length env.now) }
     ensures { IfOk result (λ shown. shown ≡ item env.now row.now) }
 {
     let name = name_of(alloc, env, row.place)?;
     let statement = statement(alloc, env, row.place)?;
-    let axioms = axioms(alloc, env, row.place)?;
-    let axioms = names_of(alloc, env, axioms.as_slice())?;
+    let axioms = names_of(alloc, env, axioms_of(env, lists, row.place))?;
     Ok(OutlineItem {
         kind: row.kind,
         name,
