@@ -1,5 +1,5 @@
 -- The refusals of a proof move stand at tokens of its term, or at the whole sentence.
-use Rattle.std.proofs.Common.{◌≡◌, ℕ, zero, suc, ◌+◌, ◌-◌, ◌==◌, nat_lt, List, [], ◌∷◌, length, Bool, true, false, Option, Some, None, Result, Ok, Err, slice_get}
+use Rattle.std.proofs.Common.{◌≡◌, ℕ, zero, suc, ◌+◌, ◌-◌, ◌==◌, List, [], ◌∷◌, length, Bool, true, false, Option, Some, None, Result, Ok, Err, slice_get}
 use Rattle.std.specs.Prelude.{if◌then◌else◌}
 use Rattle.base_core.specs.declared.refusal_codes.TheConstants.{NAME_USED}
 use Rattle.base_core.specs.declared.refusals.Place.TheVariants.{Whole}
@@ -21,7 +21,7 @@ use Rattle.cic_rules.specs.Eliminators.{same_name, has_name, WILDCARD}
 use Rattle.cic_rules.specs.Infer.{infer_at, check_at}
 use Rattle.cic_rules.specs.Reduce.{whnf_at}
 use Rattle.cic_rules.specs.Runs.{Run, ◌>>=◌}
-use Rattle.cic_rules.specs.Steps.{Step, TooLarge, step_then, refuse_step}
+use Rattle.cic_rules.specs.Steps.{Step, TooLarge, refuse_step}
 use Rattle.fresh_names.specs.Letters.{constant_of}
 use Rattle.fresh_names.specs.Shown.{shown_names}
 use Rattle.matching.specs.Patterns.{Values, unset_values, has_unset, fill}
@@ -35,10 +35,10 @@ use Rattle.move_basic.specs.Names.{new_name}
 use Rattle.move_basic.specs.Intro.{hole, named, under_hyp, opening_of, entered, opened_by, opened, intro, intros_named, intros_all, intros}
 use Rattle.move_basic.specs.Terms.{exact, tried, assumed, assumption}
 use Rattle.move_basic.specs.Apply.{is_used_later, or_else, matched, last_match, first_match, match_at_end, argument_by, argument, with_arguments, apply, apply_to_all}
-use Rattle.move_basic.specs.Constructors.{place_of, sized, count_arguments, at_params, at_place, constructor_by, decl_of_place, constructor_term, construct}
+use Rattle.move_basic.specs.Constructors.{place_of, at_params, at_place, constructor_by, decl_of_place, constructor_term, construct}
 use Rattle.move_basic.specs.Equality.{by_sides, reflexivity}
 use Rattle.move_basic.specs.Moves.{solved, run_basic}
-use Rattle.vernac_exec.proofs.StandsLaws.{Stands, StepAt, step_at_then, stands_pure, stands_refuse, stands_step_of, stands_if, stands_hyp, stands_spend, stands_bind, stands_step, stands_laws}
+use Rattle.vernac_exec.proofs.StandsLaws.{Stands, StepAt, stands_pure, stands_refuse, stands_step_of, stands_if, stands_hyp, stands_spend, stands_bind, stands_step, stands_laws}
 use Rattle.vernac_exec.proofs.StandsOfElab.{AreAt, at_elab}
 use Rattle.vernac_exec.proofs.StandsOfKernel.{at_whnf, at_conv, at_infer, at_checked}
 
@@ -217,25 +217,9 @@ module _ (P : ℕ → ℕ → Type 0) where
   sized_by true t = tt
   sized_by false t = tt
 
-  params_by : (b : Bool) (first second : Step Tree) → StepAt P first → StepAt P second → StepAt P (if b then first else second)
-  params_by true first second one two = one
-  params_by false first second one two = two
-
-  at_at_params : (params place : ℕ) (t : Tree) → StepAt P (at_params params place t)
-  at_at_params params place (App f a) =
-      params_by (nat_lt (count_arguments f) params) (step_then (at_params params place f) (λ g. sized (App g a))) (at_params params place f)
-      (step_at_then P (at_params params place f) (λ g. sized (App g a)) (at_at_params params place f) (λ g. sized_by (is_small (App g a)) (App g a)))
-      (at_at_params params place f)
-  at_at_params params place (Var i) = tt
-  at_at_params params place (Sorted s) = tt
-  at_at_params params place (Constant c) = tt
-  at_at_params params place (Prod n a b) = tt
-  at_at_params params place (Lam n a b) = tt
-  at_at_params params place (LetIn n a t b) = tt
-
   at_at_place : (number params : ℕ) (t : Tree) (found : Option ℕ) → StepAt P (at_place number params t found)
   at_at_place number params t None = tt
-  at_at_place number params t (Some place) = at_at_params params place t
+  at_at_place number params t (Some place) = sized_by (is_small (at_params params place t)) (at_params params place t)
 
   counted_by : (b : Bool) (number : ℕ) (step : Step Tree) → StepAt P step → StepAt P (if b then step else refuse_step number Whole)
   counted_by true number step at = at

@@ -14,8 +14,9 @@ use Rattle.cic_rules.specs.Laws.{KeepsLawOfFuel}
 use Rattle.cic_rules.specs.Runs.{Ran}
 use Rattle.bullet_focus.specs.FocusState.{FocusState}
 use Rattle.bullet_focus.specs.Laws.{all_goals}
-use Rattle.proof_state.specs.IsProof.{times}
+use Rattle.proof_state.specs.IsProof.{times, IsProof}
 use Rattle.proof_state.specs.Proof.{Proof, GoalStatus, Unsolved}
+use Rattle.proof_state.specs.Scopes.{HaveGoalsIn}
 use Rattle.vernac_exec.specs.declared.deed.Deed.{Deed}
 use Rattle.vernac_exec.specs.declared.state.Theorem.{Theorem}
 use Rattle.vernac_exec.specs.declared.state.OpenProof.{OpenProof}
@@ -88,6 +89,11 @@ Agrees goals focus = (n : ℕ) → times n (all_goals focus) ≡ unsolved_count 
 abbrev pub IsUnderWay : Option OpenProof → Type 0
 IsUnderWay None = Unit {0}
 IsUnderWay (Some o) = Agrees o.proof.goals o.focus
+
+-- a proof that the program holds: its goals are in scope, and it is a proof as those of its crate are
+abbrev pub IsHeldProof : List Slot → Option OpenProof → Type 0
+IsHeldProof env None = Unit {0}
+IsHeldProof env (Some o) = IsProof o.proof × HaveGoalsIn env o.proof.goals
 
 -- what is true of each state that sentences reach
 pub record IsReached (m : State) : Type 0 where
