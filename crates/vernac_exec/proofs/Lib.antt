@@ -1,10 +1,12 @@
 pub mod FuelOfExec
 pub mod UnitLaws
+pub mod FocusLaws
 pub mod StateLaws
 pub mod Samples
 pub mod StandsLaws
 pub mod StandsOfKernel
 pub mod StandsOfElab
+pub mod StandsOfMoves
 pub mod StandsOfSentences
 pub mod ProverLaws
 pub mod ShownRows

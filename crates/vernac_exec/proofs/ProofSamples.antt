@@ -11,7 +11,6 @@ use Rattle.coq_syntax.specs.CommandTrees.{Command}
 use Rattle.coq_syntax.specs.CommandTrees as command
 use Rattle.coq_syntax.specs.MoveTrees as move
 use Rattle.coq_syntax.specs.Trees.{Term, Name, And, Equal, Numeral, NoGroup, Group}
-use Rattle.bullet_focus.specs.declared.levels.Level.{Level}
 use Rattle.cic_rules.specs.declared.env.Slot.{Slot}
 use Rattle.cic_rules.specs.Convert.{conv_at, blocker_at}
 use Rattle.cic_rules.specs.Declare.{declare_at}
@@ -22,11 +21,9 @@ use Rattle.cic_rules.specs.Runs.{Ran, repeat}
 use Rattle.cic_rules.proofs.FirstState.{first_state}
 use Rattle.elaborator.specs.Elab.{elab, open_groups}
 use Rattle.matching.specs.Match.{match_at}
-use Rattle.term_print.specs.Show.{show}
 use Rattle.vernac_exec.specs.declared.deed.Deed.{Deed}
 use Rattle.vernac_exec.specs.declared.reading.Reading.{Reading}
 use Rattle.vernac_exec.specs.declared.reading.Reading.TheVariants as read
-use Rattle.vernac_exec.specs.declared.state.Row.{Row}
 use Rattle.vernac_exec.specs.declared.state.OpenProof.{OpenProof}
 use Rattle.vernac_exec.specs.declared.state.State.{State}
 use Rattle.vernac_exec.specs.Calls.{run_read}
@@ -34,7 +31,6 @@ use Rattle.vernac_exec.specs.Commands.{obey}
 use Rattle.vernac_exec.specs.Diagnostics.{told}
 use Rattle.vernac_exec.specs.Proofs.{obey_inside}
 use Rattle.vernac_exec.specs.States.{over, behind}
-use Rattle.vernac_exec.specs.Views.{goals_of}
 
 abbrev environment_of : Result (List Slot) Stop → List Slot
 environment_of (Ok env) = env

@@ -24,7 +24,7 @@ use Rattle.vernac_exec.specs.declared.state.Row.{Row}
 use Rattle.vernac_exec.specs.declared.state.State.{State}
 use Rattle.vernac_exec.specs.declared.state.OpenProof.{OpenProof}
 use Rattle.vernac_exec.specs.declared.reading.Reading.{Reading}
-use Rattle.vernac_exec.specs.Diagnostics.{limit_code, error_at, answer_at, told_stop, severity_of, note_at, told_entry, told}
+use Rattle.vernac_exec.specs.Diagnostics.{limit_code, error_at, answer_at, told_stop, note_at, told_entry, told}
 use Rattle.vernac_exec.specs.Readings.{is_end_of, reading}
 use Rattle.vernac_exec.specs.States.{over, raised, passed, opened_by, first_of, next_row, declared, with_progress, done, entered_as_admitted, behind}
 use Rattle.vernac_exec.specs.Exec.{whole_run, after}
