@@ -10,7 +10,10 @@ pub mod StandsOfMoves
 pub mod StandsOfSentences
 pub mod ProverLaws
 pub mod ShownRows
+pub mod PlainGroups
 pub mod FamilyLaws
+pub mod ScopesOfMoves
+pub mod HeldProofs
 pub mod NameLaws
 pub mod ExecLaws
 pub mod SoundStates

@@ -22,7 +22,7 @@ mod views;
 pub use deed::{CodeList, Deed};
 pub use diagnostics::diagnostics_of;
 pub use exec::exec_sentence;
-pub use laws::{law_of_open_proofs, law_of_states, law_of_units};
+pub use laws::{law_of_states, law_of_units};
 pub use prover_laws::law_of_prover;
 pub use reading::Reading;
 pub use soundness::law_of_soundness;
