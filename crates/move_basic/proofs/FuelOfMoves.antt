@@ -1,23 +1,15 @@
--- The law of fuel for each move, and for a step of a proof.
-use Rattle.std.specs.Prelude.{◌≡◌, ℕ, ◌+◌, nat_le, length, Bool, true, false, Ok, Err, if◌then◌else◌}
-use Rattle.base_core.specs.declared.refusals.Stop.TheVariants.{Out}
-use Rattle.base_core.specs.declared.refusals.Limit.TheVariants.{SizeLimit, StepLimit}
+-- The law of fuel for each move.
 use Rattle.coq_syntax.specs.MoveTrees.{Move, Intro, Intros, Exact, Apply, Assumption, Split, Left, Right, Reflexivity, Simpl, Unfold, Destruct, Induction, Rewrite}
 use Rattle.coq_syntax.specs.MoveTrees as move
 use Rattle.cic_rules.specs.Laws.{KeepsLawOfFuel}
 use Rattle.cic_rules.specs.Runs.{Run}
-use Rattle.cic_rules.proofs.FuelLaws.{law_give, law_pure, law_bind, law_some, law_refuse}
+use Rattle.cic_rules.proofs.FuelLaws.{law_pure, law_bind, law_refuse}
 use Rattle.elaborator.proofs.FuelOfElab.{fuel_of_elaboration}
 use Rattle.proof_state.specs.declared.goals.Goal.{Goal}
-use Rattle.proof_state.specs.declared.goals.TheConstants.{GOAL_LIMIT}
-use Rattle.proof_state.specs.declared.state.Filling.{Filling}
 use Rattle.proof_state.specs.declared.state.Filling.TheVariants.{Give, Admit}
-use Rattle.proof_state.specs.declared.state.Refined.{Refined}
-use Rattle.proof_state.specs.Partial.{Partial, holes}
-use Rattle.proof_state.specs.Proof.{Proof}
-use Rattle.proof_state.specs.Steps.{goal_at, refined, refined_by}
+use Rattle.proof_state.specs.Partial.{Partial}
 use Rattle.move_basic.specs.Moves.{solved}
-use Rattle.move_basic.specs.Laws.{FuelOfMoves, FuelOfSteps}
+use Rattle.move_basic.specs.Laws.{FuelOfMoves}
 use Rattle.move_basic.proofs.FuelOfRows.{law_intro, law_intros, law_exact, law_assumption, law_apply, law_construct, law_reflexivity}
 
 law_solved : (s : Run (Partial Goal)) → KeepsLawOfFuel s → KeepsLawOfFuel (solved s)
@@ -39,16 +31,3 @@ fuel_of_moves env calls g (Unfold p w) = law_refuse _
 fuel_of_moves env calls g (Destruct p w pattern) = law_refuse _
 fuel_of_moves env calls g (Induction p w pattern) = law_refuse _
 fuel_of_moves env calls g (Rewrite p d s) = law_refuse _
-
-within_by : (b : Bool) (r : Refined) → (if b then Ok r else Err (Out SizeLimit)) ≡ Err (Out StepLimit) → ⊥
-within_by true r e = cc
-within_by false r e = cc
-
-refined_is : (p : Proof) (n : ℕ) (by : Filling) → refined_by p n by ≡ Err (Out StepLimit) → ⊥
-refined_is p n (Give s) e = within_by (nat_le (length p.goals + length (holes s)) GOAL_LIMIT) (refined n s p) e
-refined_is p n Admit e = cc
-
-pub fuel_of_steps : FuelOfSteps
-fuel_of_steps env calls p n m =
-    law_bind (law_some _ (goal_at p.goals n))
-    (λ g. law_bind (fuel_of_moves env calls g m) (λ by. law_give (refined_by p n by) (refined_is p n by)))

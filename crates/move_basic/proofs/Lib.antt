@@ -8,5 +8,5 @@ pub mod Parameters
 pub mod Constructed
 pub mod Openings
 pub mod Equations
-pub mod Givings
+pub mod Fillings
 pub mod Samples

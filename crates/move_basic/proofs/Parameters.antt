@@ -1,5 +1,5 @@
 -- The first arguments of a term, and the last of them taken off.
-use Rattle.std.specs.Prelude.{Bool, true, false, Ok, Err, if◌then◌else◌, ◌≡◌, ℕ, zero, suc, ◌-◌, ◌≤◌, ◌<◌, List, [], ◌∷◌, length, take, refl}
+use Rattle.std.specs.Prelude.{Result, Bool, true, false, Ok, Err, if◌then◌else◌, ◌≡◌, ℕ, zero, suc, ◌-◌, ◌≤◌, ◌<◌, List, [], ◌∷◌, length, take, refl}
 use Rattle.std.proofs.Common.{ap, sym, subst, ◌∙◌, arith, length-append}
 use Rattle.std.proofs.lemmas.List.{take-append-le}
 use Rattle.core_term.specs.Answers.{within_limits, Gives}
@@ -36,11 +36,29 @@ without_last last place f a some =
     ap (apply_all (Constant place)) (sym (take-append-le (length (arguments_of f) - (last - 1)) (arguments_of f) (a ∷ []) (omega arith)))
     ∙ ap (λ n. at_params n place (App f a)) (sym k)
 
-pub with_last : (place : ℕ) (f a : Tree) → App (at_params (length (arguments_of f) - 0) place f) a ≡ at_params (length (arguments_of (App f a)) - 0) place (App f a)
+with_last : (place : ℕ) (f a : Tree) → App (at_params (length (arguments_of f) - 0) place f) a ≡ at_params (length (arguments_of (App f a)) - 0) place (App f a)
 with_last place f a =
     ap (λ xs. App (apply_all (Constant place) xs) a) (take_all (arguments_of f) (length (arguments_of f) - 0) (omega arith))
     ∙ sym (applied_twice (Constant place) (arguments_of f) (a ∷ []))
     ∙ ap (apply_all (Constant place)) (sym (take_all (arguments_of (App f a)) (length (arguments_of (App f a)) - 0) (omega arith)))
+
+none_dropped : (last place : ℕ) (t f a : Tree) → App f a ≡ t → last ≡ 0 →
+    App (at_params (length (arguments_of f) - 0) place f) a ≡ at_params (length (arguments_of t) - last) place t
+none_dropped last place t f a is none =
+    with_last place f a ∙ ap (λ u. at_params (length (arguments_of u) - 0) place u) is ∙ ap (λ n. at_params (length (arguments_of t) - n) place t) (sym none)
+
+made_is : (b : Bool) (u v : Tree) → Gives {A = Tree} (Ok u) (if b then Ok v else Err TooLarge) → u ≡ v
+made_is true u v made = cc
+made_is false u v made = absurd (cc)
+
+pub with_last_made : (last place : ℕ) (t f a u x : Tree) (made r : Result Tree TermStop) → App f a ≡ t → last ≡ 0 → x ≡ a →
+    made ≡ Ok u → Gives made (within_limits (at_params (length (arguments_of f) - 0) place f)) → Gives r (within_limits (App u x)) →
+    Gives r (within_limits (at_params (length (arguments_of t) - last) place t))
+with_last_made last place t f a u x made r is none same found kept gives =
+    let v = at_params (length (arguments_of f) - 0) place f in
+    let u_is : u ≡ v = made_is (is_small v) u v (subst (λ (m : Result Tree TermStop). Gives m (within_limits v)) found kept) in
+    let x_is : App u x ≡ App v a = ap (App u) same ∙ ap (λ w. App w a) u_is in
+    subst (λ (w : Tree). Gives r (within_limits w)) (x_is ∙ none_dropped last place t f a is none) gives
 
 -- an application whose function can't be made
 
@@ -50,9 +68,11 @@ large_by u v NoMem b c large gives = tt
 large_by u v TooLarge true c large gives = cc
 large_by u v TooLarge false c large gives = let e = large refl in rw e refl
 
-pub stop_kept : (place : ℕ) (f a : Tree) (stop : TermStop) → Gives {A = Tree} (Err stop) (within_limits (at_params (length (arguments_of f) - 0) place f)) →
-    Gives {A = Tree} (Err stop) (within_limits (at_params (length (arguments_of (App f a)) - 0) place (App f a)))
-stop_kept place f a stop gives =
+pub with_last_stopped : (last place : ℕ) (t f a : Tree) (stop : TermStop) (made : Result Tree TermStop) → App f a ≡ t → last ≡ 0 →
+    made ≡ Err stop → Gives made (within_limits (at_params (length (arguments_of f) - 0) place f)) →
+    Gives {A = Tree} (Err stop) (within_limits (at_params (length (arguments_of t) - last) place t))
+with_last_stopped last place t f a stop made is none found gives =
     let u = at_params (length (arguments_of f) - 0) place f in
-    subst (λ (v : Tree). Gives {A = Tree} (Err stop) (within_limits v)) (with_last place f a)
-    (large_by u (App u a) stop (is_small u) (is_small (App u a)) (λ large. applied_too_large u (a ∷ []) large) gives)
+    subst (λ (v : Tree). Gives {A = Tree} (Err stop) (within_limits v)) (none_dropped last place t f a is none)
+    (large_by u (App u a) stop (is_small u) (is_small (App u a)) (λ large. applied_too_large u (a ∷ []) large)
+    (subst (λ (m : Result Tree TermStop). Gives m (within_limits u)) found gives))

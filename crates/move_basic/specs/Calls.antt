@@ -11,9 +11,7 @@ use Rattle.cic_rules.specs.Runs.{Ran, Run, ◌>>=◌, pure}
 use Rattle.matching.specs.Patterns.{Values}
 use Rattle.proof_state.specs.declared.goals.Goal.{Goal}
 use Rattle.proof_state.specs.declared.state.Filling.{Filling}
-use Rattle.proof_state.specs.declared.state.Refined.{Refined}
 use Rattle.proof_state.specs.Partial.{Partial, Applies}
-use Rattle.proof_state.specs.Proof.{Proof}
 use Rattle.move_basic.specs.declared.equality.Equation.{Equation}
 use Rattle.move_basic.specs.declared.opening.Opening.{Opening}
 use Rattle.move_basic.specs.Intro.{opened, intro, intros_named, intros_all, intros, entered, hole}
@@ -21,7 +19,7 @@ use Rattle.move_basic.specs.Terms.{exact, tried, assumed, assumption}
 use Rattle.move_basic.specs.Apply.{matched, last_match, first_match, match_at_end, argument_by, argument, with_arguments, is_used_later, apply, apply_to_all}
 use Rattle.move_basic.specs.Constructors.{construct}
 use Rattle.move_basic.specs.Equality.{by_sides, reflexivity}
-use Rattle.move_basic.specs.Moves.{by_exact, by_apply, run_basic, run_move}
+use Rattle.move_basic.specs.Moves.{by_exact, by_apply, run_basic}
 
 module _ (env : List Slot) (ctx : List Hyp) (ty : Tree) where
   abbrev pub opened_with : FuelState → Ran Opening
@@ -115,6 +113,3 @@ by_apply_with env g s f = by_apply env (calls_left f) g s (left f)
 
 abbrev pub basic_with : List Slot → Goal → Move → FuelState → Ran Filling
 basic_with env g m f = run_basic env (calls_left f) g m (left f)
-
-abbrev pub move_with : List Slot → Proof → ℕ → Move → FuelState → Ran Refined
-move_with env p n m f = run_move env (calls_left f) p n m (left f)

@@ -4,12 +4,8 @@ use Rattle.coq_syntax.specs.MoveTrees.{Move}
 use Rattle.cic_rules.specs.declared.env.Slot.{Slot}
 use Rattle.cic_rules.specs.Laws.{KeepsLawOfFuel}
 use Rattle.proof_state.specs.declared.goals.Goal.{Goal}
-use Rattle.proof_state.specs.Proof.{Proof}
-use Rattle.move_basic.specs.Moves.{run_basic, run_move}
+use Rattle.move_basic.specs.Moves.{run_basic}
 
 -- a move under a lower limit
 abbrev pub FuelOfMoves : Type 0
 FuelOfMoves = (env : List Slot) (calls : ℕ) (g : Goal) (m : Move) → KeepsLawOfFuel (run_basic env calls g m)
-
-abbrev pub FuelOfSteps : Type 0
-FuelOfSteps = (env : List Slot) (calls : ℕ) (p : Proof) (n : ℕ) (m : Move) → KeepsLawOfFuel (run_move env calls p n m)

@@ -1,20 +1,17 @@
 -- The basic proof moves: what each does with a goal, for which units, and when it is refused.
 use Rattle.std.specs.Prelude.{ℕ, List, Result, Ok, Err}
 use Rattle.base_core.specs.declared.refusals.Stop.{Stop}
-use Rattle.base_core.specs.declared.refusal_codes.TheConstants.{NOT_BUILT, NO_GOAL, NOT_ONE_CONSTRUCTOR, NOT_TWO_CONSTRUCTORS}
+use Rattle.base_core.specs.declared.refusal_codes.TheConstants.{NOT_BUILT, NOT_ONE_CONSTRUCTOR, NOT_TWO_CONSTRUCTORS}
 use Rattle.coq_syntax.specs.MoveTrees.{Move, Intro, Intros, Exact, Apply, Assumption, Split, Left, Right, Reflexivity}
 use Rattle.coq_syntax.specs.MoveTrees as move
 use Rattle.coq_syntax.specs.Trees.{Term}
 use Rattle.cic_rules.specs.declared.env.Slot.{Slot}
-use Rattle.cic_rules.specs.Runs.{Run, ◌>>=◌, give, pure, refuse, some_or}
+use Rattle.cic_rules.specs.Runs.{Run, ◌>>=◌, pure, refuse}
 use Rattle.elaborator.specs.Elab.{elab}
 use Rattle.proof_state.specs.declared.goals.Goal.{Goal}
 use Rattle.proof_state.specs.declared.state.Filling.{Filling}
 use Rattle.proof_state.specs.declared.state.Filling.TheVariants.{Give, Admit}
-use Rattle.proof_state.specs.declared.state.Refined.{Refined}
 use Rattle.proof_state.specs.Partial.{Partial}
-use Rattle.proof_state.specs.Proof.{Proof}
-use Rattle.proof_state.specs.Steps.{goal_at, refined_by}
 use Rattle.move_basic.specs.Intro.{intro, intros}
 use Rattle.move_basic.specs.Terms.{exact, assumption}
 use Rattle.move_basic.specs.Apply.{apply}
@@ -22,9 +19,9 @@ use Rattle.move_basic.specs.Constructors.{construct}
 use Rattle.move_basic.specs.Equality.{reflexivity}
 
 -- what is given for a goal, where a sketch is found
-abbrev pub given : Result (Partial Goal) Stop → Result Filling Stop
-given (Ok s) = Ok (Give s)
-given (Err stop) = Err stop
+abbrev pub filling_of : Result (Partial Goal) Stop → Result Filling Stop
+filling_of (Ok s) = Ok (Give s)
+filling_of (Err stop) = Err stop
 
 -- a goal that is solved by a sketch
 abbrev pub solved : Run (Partial Goal) → Run Filling
@@ -57,10 +54,3 @@ module _ (env : List Slot) (calls : ℕ) where
   run_basic g (Reflexivity p) = solved (reflexivity env calls g.ctx g.ty)
   run_basic g (move.Admit p) = pure Admit
   run_basic g _ = refuse NOT_BUILT
-
-  -- a move at the goal of a number: what becomes of the proof
-  abbrev pub run_move : Proof → ℕ → Move → Run Refined
-  run_move p n m = do
-    g ← some_or NO_GOAL (goal_at p.goals n)
-    by ← run_basic g m
-    give (refined_by p n by)

@@ -91,7 +91,7 @@ fn at_params(alloc: Global, params: usize, place: u32, t: &Term) -> Result<Term,
 }
 
 /// A global applied to all but the last of the term's arguments, so many.
-#[tactic(auto, using(crate::proofs::Parameters::without_last, crate::proofs::Parameters::with_last, crate::proofs::Parameters::stop_kept))]
+#[tactic(auto, using(crate::proofs::Parameters::without_last))]
 fn at_all_but(alloc: Global, last: usize, place: u32, t: &Term) -> Result<Term, TermStop>
     ensures { Makes result (within_limits (at_params (length (arguments_of t.now) - last) place t.now)) }
 {

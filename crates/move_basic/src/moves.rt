@@ -4,7 +4,7 @@ ghost use Rattle.coq_syntax.specs.Forms.{move_of};
 ghost use Rattle.cic_rules.specs.Fuel.{left, IsSpentOf};
 ghost use Rattle.cic_rules.specs.Judges.{Meets};
 ghost use Rattle.proof_state.specs.Scopes.{IsGoalIn, IsFillingIn};
-ghost use Rattle.move_basic.specs.Moves.{given};
+ghost use Rattle.move_basic.specs.Moves.{filling_of};
 ghost use Rattle.move_basic.specs.Calls.{by_exact_with, by_apply_with, basic_with};
 
 use crate::applying::apply;
@@ -39,8 +39,8 @@ pub fn run_basic<J: Judge>(
     let ctx = &goal.ctx;
     let ty = &goal.ty;
     match form {
-        MoveForm::Intro { name, .. } => given(intro(judge, alloc, env, ctx, ty, name, fuel)),
-        MoveForm::Intros { names, .. } => given(intros(
+        MoveForm::Intro { name, .. } => filling_of(intro(judge, alloc, env, ctx, ty, name, fuel)),
+        MoveForm::Intros { names, .. } => filling_of(intros(
             judge,
             alloc,
             env,
@@ -51,8 +51,8 @@ pub fn run_basic<J: Judge>(
         )),
         MoveForm::Exact { term, .. } => by_exact(judge, alloc, env, goal, term, fuel),
         MoveForm::Apply { term, .. } => by_apply(judge, alloc, env, goal, term, fuel),
-        MoveForm::Assumption(_) => given(assumption(judge, alloc, env, ctx, ty, fuel)),
-        MoveForm::Split(_) => given(construct(
+        MoveForm::Assumption(_) => filling_of(assumption(judge, alloc, env, ctx, ty, fuel)),
+        MoveForm::Split(_) => filling_of(construct(
             judge,
             alloc,
             env,
@@ -63,7 +63,7 @@ pub fn run_basic<J: Judge>(
             NOT_ONE_CONSTRUCTOR,
             fuel,
         )),
-        MoveForm::Left(_) => given(construct(
+        MoveForm::Left(_) => filling_of(construct(
             judge,
             alloc,
             env,
@@ -74,7 +74,7 @@ pub fn run_basic<J: Judge>(
             NOT_TWO_CONSTRUCTORS,
             fuel,
         )),
-        MoveForm::Right(_) => given(construct(
+        MoveForm::Right(_) => filling_of(construct(
             judge,
             alloc,
             env,
@@ -85,7 +85,7 @@ pub fn run_basic<J: Judge>(
             NOT_TWO_CONSTRUCTORS,
             fuel,
         )),
-        MoveForm::Reflexivity(_) => given(reflexivity(judge, alloc, env, ctx, ty, fuel)),
+        MoveForm::Reflexivity(_) => filling_of(reflexivity(judge, alloc, env, ctx, ty, fuel)),
         MoveForm::Admit(_) => Ok(Filling::Admit),
         MoveForm::Simpl(_) => Err(refusal(NOT_BUILT)),
         MoveForm::Unfold { .. } => Err(refusal(NOT_BUILT)),
@@ -142,8 +142,8 @@ fn by_apply<J: Judge>(
 }
 
 /// What is given for a goal, where a sketch was found.
-fn given(sketch: Result<Sketch<Goal>, Stop>) -> Result<Filling, Stop>
-    ensures { result ≡ given sketch }
+fn filling_of(sketch: Result<Sketch<Goal>, Stop>) -> Result<Filling, Stop>
+    ensures { result ≡ filling_of sketch }
 {
     match sketch {
         Ok(sketch) => Ok(Filling::Give(sketch)),

@@ -9,35 +9,27 @@ use Rattle.base_core.specs.declared.refusals.Stop.{Stop}
 use Rattle.base_core.specs.declared.refusals.Stop.TheVariants.{Out}
 use Rattle.base_core.specs.declared.refusals.Limit.TheVariants.{SizeLimit}
 use Rattle.coq_syntax.specs.declared.tree.Group.{Group}
-use Rattle.coq_syntax.specs.declared.words.BoundName.{BoundName}
 use Rattle.coq_syntax.specs.Nodes.{groups_of}
-use Rattle.coq_syntax.specs.Trees.{GroupList, NoGroup, Group as OneGroup}
 use Rattle.core_term.specs.Tree.{Tree, IsTerm, Prod, size_of, depth_of, is_small}
-use Rattle.core_term.specs.Places.{lift_of}
 use Rattle.cic_rules.specs.declared.context.Hyp.{Hyp}
 use Rattle.cic_rules.specs.declared.env.Slot.{Slot}
-use Rattle.cic_rules.specs.Contexts.{products_over, extended, plain_hyp, AreParams}
+use Rattle.cic_rules.specs.Contexts.{products_over, plain_hyp, AreParams}
 use Rattle.cic_rules.specs.Eliminators.{type_of_decl}
 use Rattle.cic_rules.specs.Environments.{entered, IsNew, MayEnter}
 use Rattle.cic_rules.specs.Fuel.{FuelState, left, calls_left}
 use Rattle.cic_rules.specs.Inductive.{assumed_type}
 use Rattle.cic_rules.specs.Judges.{MayJudge, IsTermIn, Meets}
-use Rattle.cic_rules.specs.Laws.{Tells}
-use Rattle.cic_rules.specs.Runs.{Run}
 use Rattle.cic_rules.specs.Scopes.{IsScoped, IsScopedContext}
 use Rattle.cic_rules.specs.Steps.{TooLarge, step_then, answer_of}
-use Rattle.cic_rules.proofs.TellsLaws.{tells_give, tells_pure, tells_bind}
 use Rattle.inductive_check.specs.Steps.{assumption_of, sized as room_for}
 use Rattle.inductive_check.proofs.BehindLaws.{judged_inner, sized_is}
 use Rattle.inductive_check.proofs.OpenLaws.{assumed_may}
 use Rattle.inductive_check.proofs.PartLaws.{large_more}
 use Rattle.elaborator.specs.declared.binders.Binding.TheVariants.{Product}
-use Rattle.elaborator.specs.Elab.{elab, open_groups}
-use Rattle.elaborator.specs.Names.{bound_name}
-use Rattle.elaborator.specs.Parts.{closed, then_open, opened}
-use Rattle.elaborator.specs.Rows.{bound}
+use Rattle.elaborator.specs.Parts.{closed}
 use Rattle.vernac_exec.specs.Families.{family}
 use Rattle.vernac_exec.specs.Calls.{params_with, assumed_in}
+use Rattle.vernac_exec.proofs.PlainGroups.{groups_plain}
 
 -- products over a context, whose newest hypothesis stands nearest to the term
 over_append : (xs ys : List Hyp) (t : Tree) → products_over (xs ++ ys) t ≡ products_over xs (products_over ys t)
@@ -108,38 +100,6 @@ judged_there env inner name hs arity judged made =
     (there_by (is_small (type_of_decl (family name hs arity []))) inner (entered env (assumed_type (family name hs arity []))) made)
 
 -- groups make hypotheses without definitions
-opened_by : (answer : Result (List Hyp) Stop) (rest : List Hyp → Result (List Hyp) Stop) (all : List Hyp) →
-    ((inner : List Hyp) → answer ≡ Ok inner → rest inner ≡ Ok all → AreParams all) → then_open answer rest ≡ Ok all → AreParams all
-opened_by (Ok inner) rest all holds e = holds inner refl e
-opened_by (Err stop) rest all holds e = absurd (cc)
-
-extended_plain : (b : Bool) (hs inner : List Hyp) (h : Hyp) → h.value ≡ None → AreParams hs → (if b then Ok (h ∷ hs) else Err (Out SizeLimit)) ≡ Ok inner →
-    AreParams inner
-extended_plain true hs inner h none plain e =
-    let same : h ∷ hs ≡ inner = cc in
-    subst AreParams same (none, plain)
-extended_plain false hs inner h none plain e = absurd (cc)
-
-opened_plain : (hs all : List Hyp) (ty : Tree) (k : ℕ) (ns : List BoundName) → AreParams hs → opened hs ty k ns ≡ Ok all → AreParams all
-opened_plain hs all ty k [] plain e =
-    let same : hs ≡ all = cc in
-    subst AreParams same plain
-opened_plain hs all ty k (n ∷ ns) plain e =
-    opened_by (extended hs (plain_hyp (bound_name n) (lift_of ty k 0))) (λ inner. opened inner ty (suc k) ns) all
-    (λ inner first rest. opened_plain inner all ty (suc k) ns (extended_plain _ hs inner (plain_hyp (bound_name n) (lift_of ty k 0)) refl plain first) rest) e
-
-any : {A : Type 0} (f : Run A) → Tells f (λ _. Unit {0})
-any f = record { tells = λ l x e. tt }
-
-bound_plain : (hs : List Hyp) (ns : List BoundName) (type : Run Tree) → AreParams hs → Tells (bound hs ns type) AreParams
-bound_plain hs ns type plain = tells_bind (any type) (λ ty _. tells_give (opened hs ty 0 ns) (λ inner e. opened_plain hs inner ty 0 ns plain e))
-
-groups_plain : (env : List Slot) (calls : ℕ) (hs : List Hyp) (gs : GroupList) → AreParams hs → Tells (open_groups env calls hs gs) AreParams
-unfolding open_groups
-groups_plain env calls hs NoGroup plain = tells_pure hs plain
-groups_plain env calls hs (OneGroup p ns q t r after) plain =
-    tells_bind (bound_plain hs ns (elab env calls hs t) plain) (λ inner more. groups_plain env calls inner after more)
-
 pub params_plain : (env : List Slot) (gs : List Group) (f : FuelState) (answer : Result (List Hyp) Stop) (l : ℕ) → Meets answer l (params_with env gs f) →
     IfOk answer AreParams
 params_plain env gs f (Ok hs) l met = (groups_plain env (calls_left f) [] (groups_of gs) tt).tells (left f) hs (sym met.0)

@@ -1,8 +1,7 @@
 -- The goals in focus are the unsolved ones, before and after a step.
-use Rattle.std.proofs.Common.{◌≡◌, ◌≢◌, ℕ, zero, suc, ◌+◌, nat_le, List, [], ◌∷◌, ◌++◌, length, map, drop, Bool, true, false, Option, Some, None, Result, Ok, Err, refl, sym, ◌∙◌, ap, subst, arith, append_assoc, slice_get}
+use Rattle.std.proofs.Common.{◌≡◌, ℕ, zero, suc, ◌+◌, nat_le, List, [], ◌∷◌, ◌++◌, length, map, drop, Bool, true, false, Option, Some, None, Ok, Err, refl, sym, ◌∙◌, ap, subst, arith, append_assoc, slice_get}
 use Rattle.std.specs.Prelude.{if◌then◌else◌, slice_set}
 use Rattle.std.specs.List.{range_with_len}
-use Rattle.base_core.specs.declared.refusals.Stop.{Stop}
 use Rattle.base_core.specs.declared.refusals.Stop.TheVariants.{Out}
 use Rattle.base_core.specs.declared.refusals.Limit.TheVariants.{SizeLimit}
 use Rattle.bullet_focus.specs.declared.focus.Focused.{Focused}
@@ -16,7 +15,7 @@ use Rattle.proof_state.specs.declared.state.Filling.{Filling}
 use Rattle.proof_state.specs.declared.state.Filling.TheVariants as fill
 use Rattle.proof_state.specs.declared.state.Refined.{Refined}
 use Rattle.proof_state.specs.IsProof.{times}
-use Rattle.proof_state.specs.Partial.{Partial, holes}
+use Rattle.proof_state.specs.Partial.{holes}
 use Rattle.proof_state.specs.Proof.{GoalStatus, Unsolved, GivenUp, Solved, Proof}
 use Rattle.proof_state.specs.Steps.{only_unsolved, unsolved_at, abandoned_at, abandoned, refined, refined_by}
 use Rattle.proof_state.proofs.Counts.{one_if, one_same, one_other, times_append, times_before}

@@ -1,6 +1,7 @@
 -- Worked proofs behind the first state, proved by computation: what each sentence costs, what is told of it, and the goals behind it.
-use Rattle.std.specs.Prelude.{◌≡◌, ℕ, ◌+◌, ◌-◌, List, [], ◌∷◌, map, codes, Option, Some, None, Result, Ok, Err, refl}
+use Rattle.std.specs.Prelude.{◌≡◌, ℕ, ◌+◌, ◌-◌, List, [], ◌∷◌, map, drop, true, false, codes, Option, Some, None, Result, Ok, Err, refl}
 use Rattle.base_core.specs.declared.refusals.Stop.{Stop}
+use Rattle.prover_iface.specs.declared.goals.GoalsView.{GoalsView}
 use Rattle.prover_iface.specs.declared.outline.ItemKind.TheVariants as item
 use Rattle.coq_syntax.specs.declared.command.AssumptionWord.TheVariants.{Axiom}
 use Rattle.coq_syntax.specs.declared.command.StatementWord.TheVariants.{Theorem}
@@ -11,7 +12,9 @@ use Rattle.coq_syntax.specs.CommandTrees.{Command}
 use Rattle.coq_syntax.specs.CommandTrees as command
 use Rattle.coq_syntax.specs.MoveTrees as move
 use Rattle.coq_syntax.specs.Trees.{Term, Name, And, Equal, Numeral, NoGroup, Group}
-use Rattle.bullet_focus.specs.declared.levels.Level.{Level}
+use Rattle.core_term.specs.Tree.{Constant}
+use Rattle.cic_rules.specs.declared.entries.EntryKind.{EntryKind}
+use Rattle.cic_rules.specs.declared.entries.EntryKind.TheVariants.{Defined}
 use Rattle.cic_rules.specs.declared.env.Slot.{Slot}
 use Rattle.cic_rules.specs.Convert.{conv_at, blocker_at}
 use Rattle.cic_rules.specs.Declare.{declare_at}
@@ -26,7 +29,6 @@ use Rattle.term_print.specs.Show.{show}
 use Rattle.vernac_exec.specs.declared.deed.Deed.{Deed}
 use Rattle.vernac_exec.specs.declared.reading.Reading.{Reading}
 use Rattle.vernac_exec.specs.declared.reading.Reading.TheVariants as read
-use Rattle.vernac_exec.specs.declared.state.Row.{Row}
 use Rattle.vernac_exec.specs.declared.state.OpenProof.{OpenProof}
 use Rattle.vernac_exec.specs.declared.state.State.{State}
 use Rattle.vernac_exec.specs.Calls.{run_read}
@@ -225,3 +227,44 @@ proved_row = refl
 admitted_row : (behind_all FIRST GIVEN_UP).outline ≡ record { kind = item.Admitted; place = 40; first = 0; last = 9 } ∷ []
 unfolding obey obey_inside elab open_groups infer_at declare_at whnf_at conv_at blocker_at row_at match_at repeat
 admitted_row = refl
+
+-- a proof that is ended with goals left: the theorem is admitted, and is there
+abbrev LEFT : List Reading
+LEFT = BOTH ∷ SPLIT ∷ exact (codes "I") ∷ QED ∷ read.Command (command.Check HERE (Name (word (codes "t")))) ∷ []
+
+left_seen : play FIRST LEFT ≡
+    seen 8 [] (0 ∷ []) [] []
+    ∷ seen 14 [] (1 ∷ 2 ∷ []) [] []
+    ∷ seen 3 [] (2 ∷ []) [] []
+    ∷ seen 1 (57 ∷ []) [] [] []
+    ∷ seen 2 (100 ∷ []) [] [] []
+    ∷ []
+unfolding obey obey_inside elab open_groups infer_at declare_at whnf_at conv_at blocker_at row_at match_at repeat
+left_seen = refl
+
+-- what a proof enters: `Qed` an opaque definition, `Defined` one that may be unfolded
+abbrev entered_by : Reading → List EntryKind
+entered_by r = map (λ slot. slot.entry.kind) (drop 40 (behind_all FIRST (theorem TRUE ∷ exact (codes "I") ∷ r ∷ [])).env)
+
+qed_enters : entered_by QED ≡ Defined (Constant 5) true ∷ []
+unfolding obey obey_inside elab open_groups infer_at declare_at whnf_at conv_at blocker_at row_at match_at repeat
+qed_enters = refl
+
+defined_enters : entered_by (read.Command (command.Defined HERE)) ≡ Defined (Constant 5) false ∷ []
+unfolding obey obey_inside elab open_groups infer_at declare_at whnf_at conv_at blocker_at row_at match_at repeat
+defined_enters = refl
+
+-- the goals as they are shown
+abbrev shown_behind : State → Option GoalsView
+shown_behind m = goals_of m.env m.opened
+
+groups_shown : shown_behind (next FIRST GROUPED) ≡ Some (record {
+  goals = record {
+    hyps = record { name = codes "n"; ty = codes "nat"; value = None } ∷ record { name = codes "H"; ty = codes "n = O"; value = None } ∷ [];
+    ty = codes "n = O";
+  } ∷ [];
+  stack = [];
+  given_up = [];
+})
+unfolding obey elab open_groups infer_at declare_at whnf_at conv_at blocker_at row_at match_at repeat show
+groups_shown = refl

@@ -21,10 +21,11 @@ use Rattle.cic_rules.specs.Runs.{pure, refuse}
 use Rattle.elaborator.specs.Elab.{elab, open_groups}
 use Rattle.term_print.specs.Show.{show}
 use Rattle.vernac_exec.specs.declared.deed.Deed.TheVariants.{Declares, Answers}
-use Rattle.vernac_exec.specs.declared.state.ProverState.{ProverState}
+use Rattle.vernac_exec.specs.declared.state.State.{State}
+use Rattle.vernac_exec.specs.Readings.{reading}
 use Rattle.vernac_exec.specs.Commands.{obey}
 use Rattle.vernac_exec.specs.Sentences.{sentence_run}
-use Rattle.vernac_exec.specs.States.{passed}
+use Rattle.vernac_exec.specs.States.{over, passed}
 use Rattle.vernac_exec.specs.Exec.{cost, after, diagnosed}
 
 abbrev HERE : TokenPlace
@@ -74,16 +75,16 @@ unfolding obey elab infer_at show
 check_answers = refl
 
 -- a sentence that has no end costs its own unit alone, and leaves all but the count
-unfinished_costs : (m : ProverState) (text : List ℕ) → cost m (sentence Unfinished text) ≡ 1
-unfolding sentence_run
+unfinished_costs : (m : State) (text : List ℕ) → cost m (sentence Unfinished text) ≡ 1
+unfolding sentence_run reading
 unfinished_costs m text = refl
 
-unfinished_leaves : (m : ProverState) (text : List ℕ) → after m (sentence Unfinished text) ≡ passed m
-unfolding sentence_run
+unfinished_leaves : (m : State) (text : List ℕ) → after m (sentence Unfinished text) ≡ passed m
+unfolding sentence_run reading
 unfinished_leaves m text = refl
 
 -- a bullet where no proof is open
-bullet_told : (m : ProverState) (text : List ℕ) →
-    diagnosed m (sentence Bullet text) ≡ record { severity = 1; code = 54; from = 0; to = length text; text = codes "no proof is open" } ∷ []
-unfolding sentence_run
-bullet_told m text = refl
+bullet_told : (env : List Slot) (text : List ℕ) →
+    diagnosed (over env) (sentence Bullet text) ≡ record { severity = 1; code = 54; from = 0; to = length text; text = codes "no proof is open" } ∷ []
+unfolding sentence_run reading
+bullet_told env text = refl

@@ -59,7 +59,6 @@ use Rattle.vernac_exec.specs.Readings.{is_end_of, reading}
 use Rattle.vernac_exec.specs.Sentences.{run_outside, run_inside, run_reading, sentence_run}
 use Rattle.vernac_exec.specs.States.{next_row, passed, declared, done, entered_as_admitted, with_progress, behind}
 use Rattle.vernac_exec.specs.Exec.{whole_run}
-use Rattle.vernac_exec.specs.Laws.{Adds as AddsTo}
 use Rattle.vernac_exec.specs.Soundness.{is_taken_for_granted, IsRowIn, WaitsIn, IsPutBy, IsSound, StatesAreSound}
 
 any : {A : Type 0} (f : Run A) → Tells f (λ _. Unit {0})

@@ -173,7 +173,7 @@ module _ (P : ℕ → ℕ → Type 0) where
     at_sort calls ctx a =
         at_sort_of (whnf_at env true calls) (conv_at env calls) (infer_at env calls) (at_whnf env true calls) (at_conv env calls) (at_infer calls) ctx a
 
-    at_checked : (calls : ℕ) (ctx : List Hyp) (t wanted : Tree) → Stands P (check_at env calls ctx t wanted)
+    pub at_checked : (calls : ℕ) (ctx : List Hyp) (t wanted : Tree) → Stands P (check_at env calls ctx t wanted)
     at_checked calls ctx t wanted =
         at_check (whnf_at env true calls) (conv_at env calls) (infer_at env calls) (at_whnf env true calls) (at_conv env calls) (at_infer calls) ctx t wanted
 

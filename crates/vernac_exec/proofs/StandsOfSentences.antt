@@ -1,5 +1,5 @@
 -- The refusals of a sentence stand at tokens of it, at its period, or at the whole.
-use Rattle.std.proofs.Common.{◌≡◌, ℕ, ◌+◌, ◌-◌, ◌^◌, ◌<◌, ◌≤◌, min, List, [], ◌∷◌, ◌++◌, length, get_or, codes, Bool, true, false, Option, Some, None, Result, Ok, Err, refl, sym, ◌∙◌, ap, subst, arith, length-append}
+use Rattle.std.proofs.Common.{◌≡◌, ℕ, ◌+◌, ◌-◌, ◌^◌, ◌<◌, ◌≤◌, nat_le, nat_lt, min, List, [], ◌∷◌, ◌++◌, length, get_or, codes, Bool, true, false, Option, Some, None, Result, Ok, Err, refl, sym, ◌∙◌, ap, subst, arith, length-append}
 use Rattle.std.specs.Prelude.{if◌then◌else◌}
 use Rattle.std.specs.Str.{IsUtf8, IsCharBoundary}
 use Rattle.std.proofs.lemmas.Str.{IsCharBoundary-end}
@@ -8,7 +8,9 @@ use Rattle.base_core.specs.declared.kind.Kind.{Kind}
 use Rattle.base_core.specs.declared.kind.Kind.TheVariants.{Plain, Bullet, BraceOpen, BraceClose, Unfinished}
 use Rattle.base_core.specs.declared.refusals.Place.{Place}
 use Rattle.base_core.specs.declared.refusals.Stop.{Stop}
-use Rattle.base_core.specs.declared.refusals.Stop.TheVariants.{Refused}
+use Rattle.base_core.specs.declared.refusals.Place.TheVariants.{Whole}
+use Rattle.base_core.specs.declared.refusals.Limit.TheVariants.{SizeLimit}
+use Rattle.base_core.specs.declared.refusals.Stop.TheVariants.{Refused, Out}
 use Rattle.base_core.specs.declared.refusal_codes.TheConstants as code
 use Rattle.prover_iface.specs.declared.outline.ItemKind.{ItemKind}
 use Rattle.prover_iface.specs.declared.outline.ItemKind.TheVariants as item
@@ -20,7 +22,7 @@ use Rattle.coq_syntax.specs.CommandTrees as command
 use Rattle.coq_syntax.specs.MoveTrees.{Move}
 use Rattle.coq_syntax.specs.Spelled.{symbol, spells, groups, annotation}
 use Rattle.coq_syntax.specs.Commands.{bar, constructors, command_tokens, IsCommandOf, command_fault}
-use Rattle.coq_syntax.specs.Moves.{IsMoveOf, move_fault}
+use Rattle.coq_syntax.specs.Moves.{move_tokens, IsMoveOf, move_fault}
 use Rattle.coq_syntax.specs.Faults.{Fault}
 use Rattle.coq_syntax.specs.Refusals.{Outcome}
 use Rattle.coq_syntax.specs.MeetsWhole.{IsWholeAnswer}
@@ -37,11 +39,11 @@ use Rattle.vernac_parser.proofs.CommandAnswering.{answers_meet}
 use Rattle.move_parser.specs.WholeMove.{whole_move}
 use Rattle.move_parser.specs.Sentences.{Sentence, CommandSentence, MoveSentence, read_as, read_move, read_sentence}
 use Rattle.move_parser.proofs.MoveLaw.{moves_meet}
-use Rattle.core_term.specs.Tree.{Tree}
+use Rattle.core_term.specs.Tree.{Tree, is_small}
 use Rattle.cic_rules.specs.declared.context.Hyp.{Hyp}
 use Rattle.cic_rules.specs.declared.decls.Ctor.{Ctor}
 use Rattle.cic_rules.specs.declared.decls.Decl.{Decl}
-use Rattle.cic_rules.specs.declared.decls.Decl.TheVariants.{Assume, Define, Induct}
+use Rattle.cic_rules.specs.declared.decls.Decl.TheVariants.{Assume, Define, Admit, Induct}
 use Rattle.cic_rules.specs.declared.env.Slot.{Slot}
 use Rattle.cic_rules.specs.Environments.{is_taken}
 use Rattle.cic_rules.specs.Eliminators.{type_of_decl}
@@ -50,11 +52,25 @@ use Rattle.cic_rules.specs.Runs.{and_then}
 use Rattle.elaborator.specs.declared.binders.Binding.{Binding}
 use Rattle.elaborator.specs.declared.binders.Binding.TheVariants.{Product, Function}
 use Rattle.elaborator.specs.Parts.{closed}
-use Rattle.vernac_exec.specs.declared.deed.Deed.TheVariants.{Declares, Answers}
+use Rattle.bullet_focus.specs.Steps.{replaced, after_bullet, after_brace_open, after_brace_close}
+use Rattle.proof_state.specs.declared.goals.Goal.{Goal}
+use Rattle.proof_state.specs.declared.goals.TheConstants.{GOAL_LIMIT}
+use Rattle.proof_state.specs.declared.state.Filling.{Filling}
+use Rattle.proof_state.specs.declared.state.Filling.TheVariants as fill
+use Rattle.proof_state.specs.Partial.{holes}
+use Rattle.proof_state.specs.Proof.{Proof}
+use Rattle.proof_state.specs.Steps.{started, unsolved_at, refined, refined_by, bounded, closed as whole_proof}
+use Rattle.vernac_exec.specs.declared.deed.Deed.TheVariants.{Declares, Answers, Begins, GoesOn, Passes, Drops}
+use Rattle.vernac_exec.specs.declared.reading.Reading.{Reading}
+use Rattle.vernac_exec.specs.declared.reading.Reading.TheVariants as read
+use Rattle.vernac_exec.specs.declared.state.OpenProof.{OpenProof}
 use Rattle.vernac_exec.specs.Families.{ctor, family, written_names, elab_constructors}
-use Rattle.vernac_exec.specs.Commands.{judgement_text, declare_as, assume, elab_over, elab_annotation, define, elab_family, induct, check, obey}
-use Rattle.vernac_exec.specs.Sentences.{obey_read, sentence_run}
-use Rattle.vernac_exec.proofs.StandsLaws.{IsAt, StopsAt, Stands, stands_pure, stands_refuse, stands_step_of, stands_size, stands_forbid, stands_entry, stands_bind, stands_step}
+use Rattle.vernac_exec.specs.Commands.{judgement_text, theorem, named_hyps, declare_as, assume, elab_over, elab_annotation, define, elab_family, induct, check, begin_proof, obey}
+use Rattle.vernac_exec.specs.Proofs.{first_number, context_in_focus, refocused, told_of_filling, has_unsolved, prove_at, prove, end_proof, obey_inside}
+use Rattle.vernac_exec.specs.Readings.{read_plain, read_tokens, bullet, reading}
+use Rattle.vernac_exec.specs.Sentences.{run_outside, run_inside, run_reading, sentence_run}
+use Rattle.vernac_exec.proofs.StandsOfMoves.{at_move}
+use Rattle.vernac_exec.proofs.StandsLaws.{IsAt, StopsAt, Stands, stands_give, stands_pure, stands_refuse, stands_some, stands_step_of, stands_size, stands_forbid, stands_entry, stands_bind, stands_step}
 use Rattle.vernac_exec.proofs.StandsOfKernel.{at_infer, at_declare}
 use Rattle.vernac_exec.proofs.StandsOfElab.{AreAt, behind, behind_groups, behind_annotation, at_closed, at_elab, at_groups, at_constructor}
 
@@ -117,22 +133,80 @@ module _ (P : ℕ → ℕ → Type 0) where
         stands_bind (at_elab P env calls params s (symbol (codes ":=") r ∷ constructors cs []) arity) (λ t.
         at_family name params t cs (behind P s (symbol (codes ":=") r ∷ constructors cs []) arity).1))))
 
-    at_check : (s : Term) → AreAt P (spells s []) → Stands P (check env calls s)
-    at_check s at =
-        stands_bind (at_elab P env calls [] s [] at) (λ t. stands_bind (at_infer P env calls [] t) (λ i. stands_pure (Answers (judgement_text env t i.ty))))
+    at_check : (ctx : List Hyp) (s : Term) → AreAt P (spells s []) → Stands P (check env calls ctx s)
+    at_check ctx s at =
+        stands_bind (at_elab P env calls ctx s [] at) (λ t.
+        stands_bind (at_infer P env calls ctx t) (λ i. stands_pure (Answers (judgement_text env ctx t i.ty))))
+
+    at_begin : (name : List ℕ) (gs : GroupList) (q : TokenPlace) (s : Term) → AreAt P (groups gs (symbol (codes ":") q ∷ spells s [])) →
+        Stands P (begin_proof env calls name gs s)
+    at_begin name gs q s at =
+        stands_step (stands_forbid (is_taken env name) code.NAME_TAKEN)
+        (stands_bind (at_groups P env calls [] gs (symbol (codes ":") q ∷ spells s []) at) (λ inner.
+        stands_bind (at_elab P env calls inner s [] (behind_groups P gs (symbol (codes ":") q ∷ spells s []) at).1) (λ statement.
+        stands_bind (stands_step_of P (closed Product inner statement) (at_closed P Product inner statement)) (λ ty.
+        stands_bind (at_declare P env calls (Admit name ty)) (λ admitted.
+        stands_pure (Begins (theorem name ty admitted) (started (named_hyps env inner) statement)))))))
 
     at_obey : (c : Command) → AreAt P (command_tokens c) → Stands P (obey env calls c)
     unfolding obey
     at_obey (command.Assume word keyword name colon ty) at = at_assume name.text ty at.1.1.1
     at_obey (command.Define keyword name gs a assign value) at = at_define name.text gs a assign value at.1.1
-    at_obey (command.State word keyword name gs colon ty) at = stands_refuse code.NOT_BUILT
+    at_obey (command.State word keyword name gs colon ty) at = at_begin name.text gs colon ty at.1.1
     at_obey (command.Inductive keyword name gs colon arity assign cs) at = at_induct name.text gs colon arity assign cs at.1.1
-    at_obey (command.Check keyword term) at = at_check term at.1
+    at_obey (command.Check keyword term) at = at_check [] term at.1
     at_obey (command.Proof place) at = stands_refuse code.NO_PROOF
     at_obey (command.Qed place) at = stands_refuse code.NO_PROOF
     at_obey (command.Defined place) at = stands_refuse code.NO_PROOF
     at_obey (command.Admitted place) at = stands_refuse code.NO_PROOF
     at_obey (command.Aborted place) at = stands_refuse code.NO_PROOF
+
+-- in a proof under way
+room_at : {A : Type 0} (P : ℕ → ℕ → Type 0) (b : Bool) (x : A) → (stop : Stop) → (if b then Ok x else Err (Out SizeLimit)) ≡ Err stop → StopsAt P stop
+room_at P true x stop e = cc
+room_at P false x stop e = let same : Out SizeLimit ≡ stop = cc in subst (StopsAt P) same tt
+
+module _ (P : ℕ → ℕ → Type 0) where
+  at_refined : (p : Proof) (n : ℕ) (by : Filling) → (stop : Stop) → refined_by p n by ≡ Err stop → StopsAt P stop
+  at_refined p n (fill.Give s) stop e = room_at P (nat_le (length p.goals + length (holes s)) GOAL_LIMIT) (refined n s p) stop e
+  at_refined p n fill.Admit stop e = cc
+
+  module _ (env : List Slot) (calls : ℕ) (o : OpenProof) where
+    at_prove_at : (n : ℕ) (g : Goal) (m : Move) → AreAt P (move_tokens m) → Stands P (prove_at env calls o n g m)
+    at_prove_at n g m at =
+        stands_bind (at_move P env calls g m at) (λ by. stands_bind (stands_give (refined_by o.proof n by) (at_refined o.proof n by)) (λ r.
+        stands_pure (GoesOn r.proof (replaced r.goals o.focus) (told_of_filling by))))
+
+    at_prove : (m : Move) → AreAt P (move_tokens m) → Stands P (prove env calls o m)
+    at_prove m at =
+        stands_bind (stands_some code.NO_GOAL (first_number o)) (λ n.
+        stands_bind (stands_some code.NO_GOAL (unsolved_at o.proof.goals n)) (λ g. at_prove_at n g m at))
+
+    at_end : (opaque : Bool) → Stands P (end_proof env calls opaque o)
+    at_end opaque =
+        stands_step (stands_forbid (has_unsolved o.proof.goals) code.GOALS_REMAIN)
+        (stands_step (stands_forbid (nat_lt 0 (length o.proof.given_up)) code.ADMITTED_GOALS)
+        (stands_bind (stands_give (bounded (whole_proof o.proof)) (room_at P (is_small (whole_proof o.proof)) (whole_proof o.proof))) (λ t.
+        at_declare_as P env calls item.Theorem (Define o.theorem.name (Some o.theorem.ty) t opaque))))
+
+    at_inside : (c : Command) → AreAt P (command_tokens c) → Stands P (obey_inside env calls o c)
+    unfolding obey_inside
+    at_inside (command.Assume word keyword name colon ty) at = stands_refuse code.PROOF_OPEN
+    at_inside (command.Define keyword name gs a assign value) at = stands_refuse code.PROOF_OPEN
+    at_inside (command.State word keyword name gs colon ty) at = stands_refuse code.PROOF_OPEN
+    at_inside (command.Inductive keyword name gs colon arity assign cs) at = stands_refuse code.PROOF_OPEN
+    at_inside (command.Check keyword term) at = at_check P env calls (context_in_focus o) term at.1
+    at_inside (command.Proof place) at = stands_pure Passes
+    at_inside (command.Qed place) at = at_end true
+    at_inside (command.Defined place) at = at_end false
+    at_inside (command.Admitted place) at = stands_pure (Declares item.Admitted o.theorem.admitted)
+    at_inside (command.Aborted place) at = stands_pure Drops
+
+-- what was read stands at its tokens
+abbrev IsSpelled : (ℕ → ℕ → Type 0) → Reading → Type 0
+IsSpelled P (read.Command c) = AreAt P (command_tokens c)
+IsSpelled P (read.Move m) = AreAt P (move_tokens m)
+IsSpelled P _ = Unit {0}
 
 -- what is told of a token list, where it may stand at each token and at the period
 module _ (P : ℕ → ℕ → Type 0) (tokens : Tokens) (all : AreAt P tokens.items) (last : IsAt P (next_place tokens.period [])) where
@@ -158,44 +232,38 @@ module _ (P : ℕ → ℕ → Type 0) (tokens : Tokens) (all : AreAt P tokens.it
   told_stops Is fault_of make (Err f) h stop e =
       let same : Refused (refusal tokens f) ≡ stop = cc in subst (StopsAt P) same (at_refusal Is fault_of f h)
 
-  -- what was read stands at its tokens
-  abbrev IsSpelled : Sentence → Type 0
-  IsSpelled (CommandSentence c) = AreAt P (command_tokens c)
-  IsSpelled (MoveSentence m) = Unit {0}
+  command_spelled : (outcome : Outcome Command) → IsWholeAnswer IsCommandOf command_fault tokens.items outcome → (r : Reading) →
+      read_plain (read_as CommandSentence (told tokens outcome)) ≡ Ok r → IsSpelled P r
+  command_spelled (Ok p) h r e =
+      let same : read.Command p.0 ≡ r = cc in subst (IsSpelled P) same (subst (AreAt P) (sym h.1.1) all)
+  command_spelled (Err f) h r e = cc
 
-  command_spelled : (outcome : Outcome Command) → IsWholeAnswer IsCommandOf command_fault tokens.items outcome → (s : Sentence) →
-      read_as CommandSentence (told tokens outcome) ≡ Ok s → IsSpelled s
-  command_spelled (Ok p) h s e =
-      let same : CommandSentence p.0 ≡ s = cc in subst IsSpelled same (subst (AreAt P) (sym h.1.1) all)
-  command_spelled (Err f) h s e = cc
-
-  move_spelled : (outcome : Outcome Move) → (s : Sentence) → read_as MoveSentence (told tokens outcome) ≡ Ok s → IsSpelled s
-  move_spelled (Ok p) s e = let same : MoveSentence p.0 ≡ s = cc in subst IsSpelled same tt
-  move_spelled (Err f) s e = cc
+  move_spelled : (outcome : Outcome Move) → IsWholeAnswer IsMoveOf move_fault tokens.items outcome → (r : Reading) →
+      read_plain (read_as MoveSentence (told tokens outcome)) ≡ Ok r → IsSpelled P r
+  move_spelled (Ok p) h r e =
+      let same : read.Move p.0 ≡ r = cc in subst (IsSpelled P) same (subst (AreAt P) (sym h.1.1) all)
+  move_spelled (Err f) h r e = cc
 
   read_stops_by : (b : Bool) (stop : Stop) →
       (if b then read_as CommandSentence (read_command tokens) else read_as MoveSentence (read_move tokens)) ≡ Err stop → StopsAt P stop
   read_stops_by true stop e = told_stops IsCommandOf command_fault CommandSentence (whole_command tokens.items) (answers_meet tokens.items) stop e
   read_stops_by false stop e = told_stops IsMoveOf move_fault MoveSentence (whole_move tokens.items) (moves_meet tokens.items) stop e
 
-  read_spelled_by : (b : Bool) (s : Sentence) →
-      (if b then read_as CommandSentence (read_command tokens) else read_as MoveSentence (read_move tokens)) ≡ Ok s → IsSpelled s
-  read_spelled_by true s e = command_spelled (whole_command tokens.items) (answers_meet tokens.items) s e
-  read_spelled_by false s e = move_spelled (whole_move tokens.items) s e
+  plain_stops : (r : Result Sentence Stop) → ((stop : Stop) → r ≡ Err stop → StopsAt P stop) → (stop : Stop) → read_plain r ≡ Err stop → StopsAt P stop
+  plain_stops (Ok (CommandSentence c)) at stop e = cc
+  plain_stops (Ok (MoveSentence m)) at stop e = cc
+  plain_stops (Err other) at stop e = let same : other ≡ stop = cc in subst (StopsAt P) same (at other refl)
 
-  module _ (env : List Slot) (calls : ℕ) where
-    at_obey_read : (s : Sentence) → IsSpelled s → Stands P (obey_read env calls s)
-    at_obey_read (CommandSentence c) at = at_obey P env calls c at
-    at_obey_read (MoveSentence m) at = stands_refuse code.NO_PROOF
+  read_spelled_by : (b : Bool) (r : Reading) →
+      read_plain (if b then read_as CommandSentence (read_command tokens) else read_as MoveSentence (read_move tokens)) ≡ Ok r → IsSpelled P r
+  read_spelled_by true r e = command_spelled (whole_command tokens.items) (answers_meet tokens.items) r e
+  read_spelled_by false r e = move_spelled (whole_move tokens.items) (moves_meet tokens.items) r e
 
-    read_then : (read : Result Sentence Stop) → ((stop : Stop) → read ≡ Err stop → StopsAt P stop) → ((s : Sentence) → read ≡ Ok s → IsSpelled s) →
-        (left : ℕ) (stop : Stop) → (and_then read (obey_read env calls) left).answer ≡ Err stop → StopsAt P stop
-    read_then (Ok s) stops spelled left stop e = (at_obey_read s (spelled s refl)).stands left stop e
-    read_then (Err other) stops spelled left stop e = let same : other ≡ stop = cc in subst (StopsAt P) same (stops other refl)
+  tokens_stop : (stop : Stop) → read_tokens tokens ≡ Err stop → StopsAt P stop
+  tokens_stop stop e = plain_stops (read_sentence tokens) (read_stops_by (is_command tokens.items)) stop e
 
-    at_reading : (left : ℕ) (stop : Stop) → (and_then (read_sentence tokens) (obey_read env calls) left).answer ≡ Err stop → StopsAt P stop
-    at_reading left stop e =
-        read_then (read_sentence tokens) (read_stops_by (is_command tokens.items)) (read_spelled_by (is_command tokens.items)) left stop e
+  tokens_spelled : (r : Reading) → read_tokens tokens ≡ Ok r → IsSpelled P r
+  tokens_spelled r e = read_spelled_by (is_command tokens.items) r e
 
 -- a stretch of whole characters
 pub record IsInside (text : List ℕ) (from to : ℕ) : Type 0 where
@@ -227,17 +295,62 @@ period_at front text e short =
       to_cut = subst (IsCharBoundary text) to (IsCharBoundary-end text);
     }
 
-module _ (env : List Slot) (calls : ℕ) where
+-- what is read of a sentence, whatever its kind
+module _ (text : List ℕ) (utf8 : IsUtf8 text) (short : length text < 2 ^ 32) where
+  items_at : IsFit Plain text → AreAt (IsInside text) (sentence_tokens text).items
+  items_at fit = tokens_at text 0 (sentence_tokens text).items (list_placed text (sentence_tokens text) (law text utf8 fit))
+
+  reading_stops : (kind : Kind) → IsFit kind text → (stop : Stop) → reading kind text ≡ Err stop → StopsAt (IsInside text) stop
+  unfolding reading
+  reading_stops Plain fit stop e =
+      tokens_stop (IsInside text) (sentence_tokens text) (items_at fit) (period_at fit.front text fit.parts short) stop e
+  reading_stops Bullet fit stop e = cc
+  reading_stops BraceOpen fit stop e = cc
+  reading_stops BraceClose fit stop e = cc
+  reading_stops Unfinished fit stop e =
+      let same : Refused (record { code = code.UNFINISHED; place = Whole }) ≡ stop = cc in subst (StopsAt (IsInside text)) same tt
+
+  reading_spelled : (kind : Kind) → IsFit kind text → (r : Reading) → reading kind text ≡ Ok r →
+      IsSpelled (IsInside text) r
+  unfolding reading
+  reading_spelled Plain fit r e =
+      tokens_spelled (IsInside text) (sentence_tokens text) (items_at fit) (period_at fit.front text fit.parts short) r e
+  reading_spelled Bullet fit r e = let same : bullet text ≡ r = cc in subst (IsSpelled (IsInside text)) same tt
+  reading_spelled BraceOpen fit r e = let same : read.OpenBrace ≡ r = cc in subst (IsSpelled (IsInside text)) same tt
+  reading_spelled BraceClose fit r e = let same : read.CloseBrace ≡ r = cc in subst (IsSpelled (IsInside text)) same tt
+  reading_spelled Unfinished fit r e = cc
+
+module _ (P : ℕ → ℕ → Type 0) (env : List Slot) (calls : ℕ) where
+  at_outside : (r : Reading) → IsSpelled P r → Stands P (run_outside env calls r)
+  at_outside (read.Command c) at = at_obey P env calls c at
+  at_outside (read.Move m) at = stands_refuse code.NO_PROOF
+  at_outside (read.Bullet mark count) at = stands_refuse code.NO_PROOF
+  at_outside read.OpenBrace at = stands_refuse code.NO_PROOF
+  at_outside read.CloseBrace at = stands_refuse code.NO_PROOF
+
+  at_run_inside : (o : OpenProof) (r : Reading) → IsSpelled P r → Stands P (run_inside env calls o r)
+  at_run_inside o (read.Command c) at = at_inside P env calls o c at
+  at_run_inside o (read.Move m) at = at_prove P env calls o m at
+  at_run_inside o (read.Bullet mark count) at = stands_pure (refocused o (after_bullet mark count o.focus))
+  at_run_inside o read.OpenBrace at = stands_pure (refocused o (after_brace_open o.focus))
+  at_run_inside o read.CloseBrace at = stands_pure (refocused o (after_brace_close o.focus))
+
+  at_reading : (opened : Option OpenProof) (r : Reading) → IsSpelled P r → Stands P (run_reading env calls opened r)
+  at_reading None r at = at_outside r at
+  at_reading (Some o) r at = at_run_inside o r at
+
+  read_then : (opened : Option OpenProof) (read : Result Reading Stop) → ((stop : Stop) → read ≡ Err stop → StopsAt P stop) →
+      ((r : Reading) → read ≡ Ok r → IsSpelled P r) → (left : ℕ) (stop : Stop) →
+      (and_then read (run_reading env calls opened) left).answer ≡ Err stop → StopsAt P stop
+  read_then opened (Ok r) stops spelled left stop e = (at_reading opened r (spelled r refl)).stands left stop e
+  read_then opened (Err other) stops spelled left stop e = let same : other ≡ stop = cc in subst (StopsAt P) same (stops other refl)
+
+module _ (env : List Slot) (calls : ℕ) (opened : Option OpenProof) where
   pub sentence_stands : (kind : Kind) (text : List ℕ) → IsUtf8 text → IsFit kind text → length text < 2 ^ 32 →
-      Stands (IsInside text) (sentence_run env calls kind text)
+      Stands (IsInside text) (sentence_run env calls opened kind text)
   unfolding sentence_run
-  sentence_stands Plain text utf8 fit short =
+  sentence_stands kind text utf8 fit short =
       record {
-        stands = at_reading (IsInside text) (sentence_tokens text)
-            (tokens_at text 0 (sentence_tokens text).items (list_placed text (sentence_tokens text) (law text utf8 fit)))
-            (period_at fit.front text fit.parts short) env calls;
+        stands = λ left stop e. read_then (IsInside text) env calls opened (reading kind text) (reading_stops text utf8 short kind fit)
+            (reading_spelled text utf8 short kind fit) left stop e;
       }
-  sentence_stands Bullet text utf8 fit short = stands_refuse code.NO_PROOF
-  sentence_stands BraceOpen text utf8 fit short = stands_refuse code.NO_PROOF
-  sentence_stands BraceClose text utf8 fit short = stands_refuse code.NO_PROOF
-  sentence_stands Unfinished text utf8 fit short = stands_refuse code.UNFINISHED

@@ -1,5 +1,5 @@
 -- What a sentence leaves.
-use Rattle.std.proofs.Common.{◌≡◌, ℕ, ◌+◌, ◌^◌, nat_le, nat_lt, List, [], ◌∷◌, ◌++◌, length, Bool, true, false, Option, Some, None, Result, Ok, Err, refl, subst, ap, sym, ◌∙◌}
+use Rattle.std.proofs.Common.{◌≡◌, ℕ, ◌+◌, ◌^◌, nat_le, nat_lt, List, [], ◌∷◌, ◌++◌, length, Bool, true, false, Option, Some, None, Result, Ok, Err, refl, subst, ap}
 use Rattle.std.specs.Prelude.{if◌then◌else◌}
 use Rattle.base_core.specs.declared.kind.Kind.{Kind}
 use Rattle.base_core.specs.declared.refusal_codes.TheConstants as code
@@ -43,8 +43,6 @@ use Rattle.bullet_focus.specs.Steps.{begun, replaced, after_bullet, after_brace_
 use Rattle.bullet_focus.proofs.GoalLaws.{bullets_keep, braces_keep}
 use Rattle.move_basic.specs.Moves.{run_basic}
 use Rattle.proof_state.specs.declared.goals.Goal.{Goal}
-use Rattle.proof_state.specs.declared.state.Filling.{Filling}
-use Rattle.proof_state.specs.declared.state.Refined.{Refined}
 use Rattle.proof_state.specs.Proof.{Proof}
 use Rattle.proof_state.specs.Steps.{started, unsolved_at, refined_by, bounded, closed as whole_proof}
 use Rattle.vernac_exec.specs.declared.deed.Deed.{Deed}
@@ -59,8 +57,8 @@ use Rattle.vernac_exec.specs.Commands.{judgement_text, theorem, named_hyps, decl
 use Rattle.vernac_exec.specs.Proofs.{first_number, context_in_focus, refocused, told_of_filling, has_unsolved, prove_at, prove, end_proof, obey_inside}
 use Rattle.vernac_exec.specs.Readings.{is_end_of, reading}
 use Rattle.vernac_exec.specs.Sentences.{run_outside, run_inside, run_reading, sentence_run}
-use Rattle.vernac_exec.specs.States.{over, passed, declared, done, entered_as_admitted, refused, behind, with_progress}
-use Rattle.vernac_exec.specs.Exec.{whole_run, after}
+use Rattle.vernac_exec.specs.States.{passed, done, entered_as_admitted, behind, with_progress}
+use Rattle.vernac_exec.specs.Exec.{whole_run}
 use Rattle.vernac_exec.specs.Laws.{Adds, Follows, Passes, Enters, Begins as Starting, GoesOn, Drops, PutsBy, Agrees, IsUnderWay, IsReached, SentencesKeepStates}
 use Rattle.vernac_exec.proofs.FocusLaws.{refocused_agree, refined_agree, begun_agrees}
 

@@ -14,8 +14,9 @@ use Rattle.cic_rules.specs.Laws.{KeepsLawOfFuel}
 use Rattle.cic_rules.specs.Runs.{Ran}
 use Rattle.bullet_focus.specs.FocusState.{FocusState}
 use Rattle.bullet_focus.specs.Laws.{all_goals}
-use Rattle.proof_state.specs.IsProof.{times}
+use Rattle.proof_state.specs.IsProof.{times, IsProof}
 use Rattle.proof_state.specs.Proof.{Proof, GoalStatus, Unsolved}
+use Rattle.proof_state.specs.Scopes.{HaveGoalsIn}
 use Rattle.vernac_exec.specs.declared.deed.Deed.{Deed}
 use Rattle.vernac_exec.specs.declared.state.Theorem.{Theorem}
 use Rattle.vernac_exec.specs.declared.state.OpenProof.{OpenProof}
@@ -89,6 +90,11 @@ abbrev pub IsUnderWay : Option OpenProof → Type 0
 IsUnderWay None = Unit {0}
 IsUnderWay (Some o) = Agrees o.proof.goals o.focus
 
+-- a proof under way is one as the steps of proofs keep them, and its goals are in scope
+abbrev pub IsHeldProof : List Slot → Option OpenProof → Type 0
+IsHeldProof env None = Unit {0}
+IsHeldProof env (Some o) = IsProof o.proof × HaveGoalsIn env o.proof.goals
+
 -- what is true of each state that sentences reach
 pub record IsReached (m : State) : Type 0 where
   pub environment : IsEnvironment m.env
@@ -105,3 +111,8 @@ pub record SentencesKeepStates : Type 0 where
   pub refusals : (m : State) (s : Sentence) (stop : Stop) → (whole_run m s).answer ≡ Err stop → after m s ≡ refused m (reading s.kind s.text)
   -- an environment that the program may hold stays one
   pub environments : (m : State) (s : Sentence) → IsEnvironment m.env → PutsBy m.env m.opened → IsEnvironment (after m s).env
+
+-- a proof under way stays a proof, and its goals stay in scope
+abbrev pub SentencesKeepProofs : Type 0
+SentencesKeepProofs =
+    (m : State) (s : Sentence) → IsEnvironment m.env → IsHeldProof m.env m.opened → IsHeldProof (after m s).env (after m s).opened

@@ -3,7 +3,7 @@ use Rattle.std.specs.Prelude.{List, Option, Some, None}
 use Rattle.cic_rules.specs.declared.env.Slot.{Slot}
 use Rattle.proof_state.specs.Scopes.{HaveGoalsIn}
 use Rattle.vernac_exec.specs.declared.deed.Deed.{Deed}
-use Rattle.vernac_exec.specs.declared.deed.Deed.TheVariants.{Declares, Answers, Begins, GoesOn, Passes, Drops}
+use Rattle.vernac_exec.specs.declared.deed.Deed.TheVariants.{Begins, GoesOn}
 use Rattle.vernac_exec.specs.declared.state.OpenProof.{OpenProof}
 
 -- all goals of a proof under way speak of their hypotheses and of globals alone
