@@ -4,7 +4,7 @@ use Rattle.prover_iface.specs.Sentences.{Sentence}
 use Rattle.prover_iface.specs.Meanings.{state_behind}
 use Rattle.cic_rules.specs.WellFormed.{Nothing}
 use Rattle.cic_soundness.proofs.GroundedSound.{entries_are_grounded}
-use Rattle.vernac_exec.specs.declared.state.ProverState.{ProverState}
+use Rattle.vernac_exec.specs.declared.state.State.{State}
 use Rattle.vernac_exec.specs.Exec.{after}
 use Rattle.vernac_exec.specs.States.{over}
 use Rattle.vernac_exec.specs.Soundness.{IsSound}
@@ -13,7 +13,7 @@ use Rattle.cic_prover.specs.First.{after_all, prelude_sentences, first}
 use Rattle.cic_prover.specs.Exec.{means}
 use Rattle.cic_prover.specs.Soundness.{env_behind, DocumentsAreSound}
 
-sound_behind : (m : ProverState) (sentences : List Sentence) → IsSound m → IsSound (fold after m sentences)
+sound_behind : (m : State) (sentences : List Sentence) → IsSound m → IsSound (fold after m sentences)
 sound_behind m [] is = is
 sound_behind m (s ∷ sentences) is = sound_behind (after m s) sentences (states_are_sound.after m s is)
 

@@ -3,7 +3,7 @@ use Rattle.std.specs.Prelude.{ℕ, ◌+◌, List, [], ◌∷◌, map, fold, slic
 use Rattle.sentence_split.specs.declared.spans.Span.{Span}
 use Rattle.sentence_split.specs.Sentences.{sentences}
 use Rattle.prover_iface.specs.Sentences.{Sentence, sentence}
-use Rattle.vernac_exec.specs.declared.state.ProverState.{ProverState}
+use Rattle.vernac_exec.specs.declared.state.State.{State}
 use Rattle.vernac_exec.specs.Exec.{after, cost}
 use Rattle.vernac_exec.specs.States.{over}
 use Rattle.cic_prover.specs.Prelude.{prelude}
@@ -17,10 +17,10 @@ abbrev pub sentences_at : List ℕ → List Span → List Sentence
 sentences_at text spans = map (sentence_at text) spans
 
 -- the state behind several sentences, and what they cost
-abbrev pub after_all : ProverState → List Sentence → ProverState
+abbrev pub after_all : State → List Sentence → State
 after_all m ss = fold after m ss
 
-abbrev pub cost_of : ProverState → List Sentence → ℕ
+abbrev pub cost_of : State → List Sentence → ℕ
 cost_of m [] = 0
 cost_of m (s ∷ ss) = cost m s + cost_of (after m s) ss
 
@@ -29,7 +29,7 @@ unfoldable pub prelude_sentences : List Sentence
 prelude_sentences = sentences_at prelude (sentences 0 0 prelude)
 
 -- what the prelude declares is in the environment alone: it has no entry in the outline, and its sentences have no numbers
-unfoldable pub first : ProverState
+unfoldable pub first : State
 first = over (after_all (over []) prelude_sentences).env
 
 unfoldable pub first_cost : ℕ

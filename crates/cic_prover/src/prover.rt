@@ -1,5 +1,5 @@
 //! The prover, as every prover is called.
-ghost use Rattle.vernac_exec.specs.declared.state.ProverState.{ProverState};
+ghost use Rattle.vernac_exec.specs.declared.state.State.{State};
 ghost use Rattle.cic_prover.specs.Exec.{means};
 
 use crate::first::first;
@@ -9,8 +9,7 @@ use std::alloc::Global;
 use std::sync::ledger::Ledger;
 use vernac_exec::{ProverState, exec_sentence};
 
-/// The prover of documents in a fragment of the Rocq vernacular. It runs every command that needs no
-/// proof.
+/// The prover of documents in a fragment of the Rocq vernacular.
 #[derive(Clone, Copy, Debug)]
 pub struct CicProver;
 
@@ -23,9 +22,9 @@ impl CicProver {
 impl Prover for CicProver {
     type State = ProverState;
 
-    ghost use Rattle.cic_prover.specs.Laws.{costs_fit, told_within, declared_past};
+    ghost use Rattle.cic_prover.specs.Laws.{costs_fit, told_within, opened_past, declared_past};
 
-    ghost Meaning = { ProverState };
+    ghost Meaning = { State };
 
     ghost meaning = { λ s. s };
 
@@ -35,7 +34,7 @@ impl Prover for CicProver {
 
     ghost placed = { told_within };
 
-    ghost opened_before = { λ _. tt };
+    ghost opened_before = { opened_past };
 
     ghost declared_before = { declared_past };
 
@@ -63,12 +62,12 @@ impl Prover for CicProver {
         exec_sentence(alloc, state, kind, text, units, steps)
     }
 
-    fn left_open(&self, _state: &ProverState) -> Option<u32> {
-        None
+    fn left_open(&self, state: &ProverState) -> Option<u32> {
+        state.left_open()
     }
 
-    fn goals(&self, _alloc: Global, _state: &ProverState) -> Result<Option<GoalsView>, NoMem> {
-        Ok(None)
+    fn goals(&self, alloc: Global, state: &ProverState) -> Result<Option<GoalsView>, NoMem> {
+        state.goals(alloc)
     }
 
     fn outline(&self, alloc: Global, state: &ProverState) -> Result<OutlineList, NoMem> {

@@ -18,3 +18,7 @@ pub mod NameLaws
 pub mod ExecLaws
 pub mod SoundStates
 pub mod ProofSamples
+pub mod HypLists
+pub mod ShownGoals
+pub mod ProvingLaws
+pub mod Holding

@@ -4,19 +4,22 @@ ghost use Rattle.std.specs.Prelude.{◌≡◌, IfOk};
 ghost use Rattle.cic_rules.specs.Contexts.{AreParams};
 ghost use Rattle.cic_rules.specs.Fuel.{IsSpentOf};
 ghost use Rattle.cic_rules.specs.Judges.{MayJudge, IsTermIn};
-ghost use Rattle.vernac_exec.specs.Commands.{judgement_text, named_hyps};
+ghost use Rattle.vernac_exec.specs.Commands.{judgement_text};
 ghost use Rattle.vernac_exec.specs.Standing.{IsDeedIn};
 ghost use Rattle.vernac_exec.specs.Calls.{Does, assume_with, elab_over_with, annotation_with, define_with, check_with, begin_with, stated_with, obey_with};
 
+use crate::contexts::named_hyps;
 use crate::deed::Deed;
 use crate::entering::{close_over, declare_as, refusal};
-use crate::families::induct;
+use crate::families::{induct, open_params};
+use crate::state::Theorem;
 use base_core::refusal_codes::{NAME_TAKEN, NO_PROOF};
 use base_core::{NoMem, Stop, Text};
 use cic_rules::{Context, Decl, Declares, Fuel, GlobalEnv, Judge};
 use coq_syntax::{Annotation, Command, CommandForm, Group, SurfaceTerm};
 use core_term::Term;
 use elaborator::{Binding, elab, open_groups};
+use proof_state::ProofState;
 use prover_iface::ItemKind;
 use std::alloc::Global;
 use term_print::print_term;
@@ -154,16 +157,8 @@ fn judgement_text(
     Text::from_string(alloc, text)
 }
 
-/// The hypotheses that a proof begins with: each `_` has its automatic name.
-fn named_hyps(alloc: Global, env: &GlobalEnv, inner: &Context) -> Result<Context, NoMem>
-    requires { AreParams inner.now }
-    ensures hyps { IfOk result (λ hyps. hyps ≡ named_hyps env.now inner.now) }
-    ensures plain { IfOk result AreParams }
-{
-    Err(NoMem)
-}
-
 /// A theorem whose statement is elaborated over these hypotheses.
+#[tactic(auto, using(crate::proofs::HypLists::statement_free, crate::proofs::HypLists::begins_in))]
 fn stated<D: Declares>(
     judge: &D,
     alloc: Global,
@@ -180,7 +175,20 @@ fn stated<D: Declares>(
     ensures deed { IfOk result (IsDeedIn env.now) }
     ensures kept { IsSpentOf fuel.old fuel.new }
 {
-    Err(Stop::NoMem)
+    let ty = close_over(alloc, Binding::Product, inner, statement.share()?)?;
+    let decl = Decl::Admit {
+        name: name.share()?,
+        ty: ty.share()?,
+    };
+    let admitted = judge.declare(alloc, env, &decl, fuel)?;
+    let hyps = named_hyps(alloc, env, inner)?;
+    let proof = ProofState::start(alloc, &hyps, &statement)?;
+    let theorem = Theorem {
+        name: name.share()?,
+        ty,
+        admitted,
+    };
+    Ok(Deed::Begins { theorem, proof })
 }
 
 /// `Theorem` or `Lemma`.
@@ -197,7 +205,12 @@ fn begin_proof<D: Declares>(
     ensures deed { IfOk result (IsDeedIn env.now) }
     ensures kept { IsSpentOf fuel.old fuel.new }
 {
-    Err(Stop::NoMem)
+    if env.place_of(name).is_some() {
+        return Err(refusal(NAME_TAKEN));
+    }
+    let inner = open_params(judge, alloc, env, groups, fuel)?;
+    let statement = elab(judge, alloc, env, &inner, ty, fuel)?;
+    stated(judge, alloc, env, name, &inner, statement, fuel)
 }
 
 /// A command where no proof is under way.

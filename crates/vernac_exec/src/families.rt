@@ -75,7 +75,7 @@ fn induct_new<D: Declares>(
 }
 
 /// The context of the parameters, none of which has a definition.
-fn open_params<J: Judge>(
+pub(crate) fn open_params<J: Judge>(
     judge: &J,
     alloc: Global,
     env: &GlobalEnv,

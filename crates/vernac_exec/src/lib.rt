@@ -3,6 +3,7 @@
 #![tactic(auto)]
 
 mod commands;
+mod contexts;
 mod deed;
 mod diagnostics;
 mod entering;

@@ -8,6 +8,7 @@ ghost use Rattle.vernac_exec.specs.Calls.{Does, run_outside_with, run_inside_wit
 use crate::commands::obey;
 use crate::deed::Deed;
 use crate::entering::refusal;
+use crate::proving::{obey_inside, prove, refocused};
 use crate::reading::Reading;
 use crate::state::OpenProof;
 use base_core::Stop;
@@ -37,6 +38,7 @@ fn run_outside<D: Declares>(
 }
 
 /// In a proof under way.
+#[tactic(auto, using(crate::proofs::ProvingLaws::after_bullet_small, crate::proofs::ProvingLaws::after_open_small, crate::proofs::ProvingLaws::after_close_small))]
 fn run_inside<D: Declares>(
     judge: &D,
     alloc: Global,
@@ -50,7 +52,22 @@ fn run_inside<D: Declares>(
     ensures deed { IfOk result (IsDeedIn env.now) }
     ensures kept { IsSpentOf fuel.old fuel.new }
 {
-    Err(Stop::NoMem)
+    match reading {
+        Reading::Command(command) => obey_inside(judge, alloc, env, open, command, fuel),
+        Reading::Move(step) => prove(judge, alloc, env, open, step.form(), fuel),
+        Reading::Bullet { mark, count } => {
+            let step = open.focus.bullet(alloc, *mark, *count)?;
+            refocused(alloc, env, open, step)
+        }
+        Reading::OpenBrace => {
+            let step = open.focus.brace_open(alloc)?;
+            refocused(alloc, env, open, step)
+        }
+        Reading::CloseBrace => {
+            let step = open.focus.brace_close(alloc)?;
+            refocused(alloc, env, open, step)
+        }
+    }
 }
 
 fn run_reading<D: Declares>(

@@ -1,10 +1,10 @@
 //! What the sentences so far leave.
 ghost use Rattle.std.specs.Prelude.{◌≡◌, ◌^◌, ◌<◌, IfOk};
-ghost use Rattle.vernac_exec.specs.States.{over, passed, began, went_on, dropped, declared, entered_as_admitted, done, refused, behind, opened_by};
+ghost use Rattle.vernac_exec.specs.States.{over, passed, began, went_on, dropped, declared, entered_as_admitted, done, refused, behind, opened_by, next_row};
 ghost use Rattle.vernac_exec.specs.Standing.{HaveGoals, IsDeedIn};
 
 use crate::deed::Deed;
-use crate::reading::Reading;
+use crate::reading::{Reading, is_end_of};
 use base_core::{NoMem, Stop, Text};
 use bullet_focus::Focus;
 use cic_rules::GlobalEnv;
@@ -116,10 +116,12 @@ impl ProverState {
     pub fn share(&self) -> Result<ProverState, NoMem>
         ensures { IfOk result (λ s. s ≡ self.now) }
     {
-        Err(NoMem)
+        let state = self.state.share()?;
+        Ok(ProverState { state })
     }
 
     /// The state behind a sentence that was read and answered so.
+    #[tactic(auto, using(crate::proofs::Holding::done_held, crate::proofs::Holding::refused_held))]
     pub fn behind(
         &self,
         alloc: Global,
@@ -129,7 +131,11 @@ impl ProverState {
         requires { IfOk answer (IsDeedIn self.now.env) }
         ensures { IfOk result (λ s. s ≡ behind self.now reading.now answer) }
     {
-        Err(NoMem)
+        let state = match answer {
+            Ok(deed) => self.state.done(alloc, deed)?,
+            Err(_) => self.state.refused(alloc, reading)?,
+        };
+        Ok(ProverState { state })
     }
 }
 
@@ -137,63 +143,142 @@ impl State {
     fn share(&self) -> Result<State, NoMem>
         ensures { IfOk result (λ s. s ≡ self.now) }
     {
-        Err(NoMem)
+        Ok(State {
+            env: self.env.share()?,
+            outline: self.outline.share()?,
+            count: self.count,
+            opened: share_opened(&self.opened)?,
+        })
     }
 
     /// The state behind a sentence that leaves all but the count.
     fn passed(&self) -> Result<State, NoMem>
         ensures { IfOk result (λ s. s ≡ passed self.now) }
     {
-        Err(NoMem)
+        Ok(State {
+            env: self.env.share()?,
+            outline: self.outline.share()?,
+            count: self.count.saturating_add(1),
+            opened: share_opened(&self.opened)?,
+        })
     }
 
     /// The state behind a sentence that begins a proof.
     fn began(&self, alloc: Global, theorem: Theorem, proof: ProofState) -> Result<State, NoMem>
         ensures { IfOk result (λ s. s ≡ began self.now theorem proof) }
     {
-        Err(NoMem)
+        let focus = Focus::begin(alloc, 0)?;
+        let open = OpenProof {
+            theorem,
+            first: self.count,
+            proof,
+            focus,
+        };
+        Ok(State {
+            env: self.env.share()?,
+            outline: self.outline.share()?,
+            count: self.count.saturating_add(1),
+            opened: Some(open),
+        })
     }
 
     /// The state behind a step of the proof under way.
     fn went_on(&self, proof: ProofState, focus: Focus) -> Result<State, NoMem>
         ensures { IfOk result (λ s. s ≡ went_on self.now proof focus) }
     {
-        Err(NoMem)
+        let opened = match &self.opened {
+            Some(open) => Some(open.with(proof, focus)?),
+            None => None,
+        };
+        Ok(State {
+            env: self.env.share()?,
+            outline: self.outline.share()?,
+            count: self.count.saturating_add(1),
+            opened,
+        })
     }
 
     /// The state without the proof under way.
     fn dropped(&self) -> Result<State, NoMem>
         ensures { IfOk result (λ s. s ≡ dropped self.now) }
     {
-        Err(NoMem)
+        Ok(State {
+            env: self.env.share()?,
+            outline: self.outline.share()?,
+            count: self.count.saturating_add(1),
+            opened: None,
+        })
+    }
+
+    /// The row of what the next sentence declares at the next place.
+    fn next_row(&self, kind: ItemKind) -> Row
+        ensures { result ≡ next_row self.now kind }
+    {
+        let first = match &self.opened {
+            Some(open) => open.first,
+            None => self.count,
+        };
+        Row {
+            kind,
+            place: self.env.len(),
+            first,
+            last: self.count,
+        }
     }
 
     /// The state behind a sentence that gives this environment.
     fn declared(&self, alloc: Global, kind: ItemKind, env: GlobalEnv) -> Result<State, NoMem>
         ensures { IfOk result (λ s. s ≡ declared self.now kind env) }
     {
-        Err(NoMem)
+        let row = self.next_row(kind);
+        let outline = self.outline.with_last(alloc, row)?;
+        Ok(State {
+            env,
+            outline,
+            count: self.count.saturating_add(1),
+            opened: None,
+        })
     }
 
     /// The state with the theorem of the proof under way as an admitted one.
     fn entered_as_admitted(&self, alloc: Global) -> Result<State, NoMem>
         ensures { IfOk result (λ s. s ≡ entered_as_admitted self.now self.now.opened) }
     {
-        Err(NoMem)
+        match &self.opened {
+            Some(open) => {
+                let env = open.theorem.admitted.share()?;
+                self.declared(alloc, ItemKind::Admitted, env)
+            }
+            None => self.passed(),
+        }
     }
 
     /// The state behind a sentence that nothing refused.
     fn done(&self, alloc: Global, deed: Deed) -> Result<State, NoMem>
         ensures { IfOk result (λ s. s ≡ done self.now deed) }
     {
-        Err(NoMem)
+        match deed {
+            Deed::Declares { kind, env } => self.declared(alloc, kind, env),
+            Deed::Answers(_) => self.passed(),
+            Deed::Begins { theorem, proof } => self.began(alloc, theorem, proof),
+            Deed::GoesOn {
+                proof,
+                focus,
+                told: _,
+            } => self.went_on(proof, focus),
+            Deed::Passes => self.passed(),
+            Deed::Drops => self.dropped(),
+        }
     }
 
     /// The state behind a sentence that was refused, or that a limit ended.
     fn refused(&self, alloc: Global, reading: &Result<Reading, Stop>) -> Result<State, NoMem>
         ensures { IfOk result (λ s. s ≡ refused self.now reading.now) }
     {
-        Err(NoMem)
+        if is_end_of(reading) {
+            return self.entered_as_admitted(alloc);
+        }
+        self.passed()
     }
 }
 
@@ -202,7 +287,11 @@ impl Theorem {
     pub(crate) fn share(&self) -> Result<Theorem, NoMem>
         ensures { IfOk result (λ t. t ≡ self.now) }
     {
-        Err(NoMem)
+        Ok(Theorem {
+            name: self.name.share()?,
+            ty: self.ty.share()?,
+            admitted: self.admitted.share()?,
+        })
     }
 }
 
@@ -210,13 +299,30 @@ impl OpenProof {
     pub(crate) fn share(&self) -> Result<OpenProof, NoMem>
         ensures { IfOk result (λ o. o ≡ self.now) }
     {
-        Err(NoMem)
+        let proof = self.proof.share()?;
+        let focus = self.focus.share()?;
+        self.with(proof, focus)
     }
 
     /// The proof after a step.
     fn with(&self, proof: ProofState, focus: Focus) -> Result<OpenProof, NoMem>
         ensures { IfOk result (λ o. o ≡ record self.now { proof = proof; focus = focus }) }
     {
-        Err(NoMem)
+        let theorem = self.theorem.share()?;
+        Ok(OpenProof {
+            theorem,
+            first: self.first,
+            proof,
+            focus,
+        })
+    }
+}
+
+fn share_opened(opened: &Option<OpenProof>) -> Result<Option<OpenProof>, NoMem>
+    ensures { IfOk result (λ same. same ≡ opened.now) }
+{
+    match opened {
+        Some(open) => Ok(Some(open.share()?)),
+        None => Ok(None),
     }
 }
