@@ -83,6 +83,11 @@ set_length [] n = refl
 set_length (x ∷ xs) zero = refl
 set_length (x ∷ xs) (suc n) = ap suc (set_length xs n)
 
+abbrev Counts : List GoalStatus → List Goal → ℕ → ℕ → ℕ → Type 0
+Counts xs gs n m from =
+    unsolved_count (slice_get (slice_set xs n Solved ++ map Unsolved gs) m) ≡
+    unsolved_count (slice_get (slice_set xs n Solved) m) + times m (range_with_len from (length gs))
+
 -- the new goals stand in the place of the first
 solved_first : (xs : List GoalStatus) (gs : List Goal) (n : ℕ) (rest : List ℕ) (g : Goal) → slice_get xs n ≡ Some (Unsolved g) →
     AreUnsolved xs (n ∷ rest) → AreUnsolved (slice_set xs n Solved ++ map Unsolved gs) (range_with_len (length xs) (length gs) ++ rest)
@@ -92,8 +97,7 @@ solved_first xs gs n rest g there are m =
     let set = solved_counted xs n m g there in
     let more : unsolved_count (slice_get (slice_set xs n Solved ++ map Unsolved gs) m) ≡
     unsolved_count (slice_get (slice_set xs n Solved) m) + times m (range_with_len (length xs) (length gs)) =
-    subst (λ k. unsolved_count (slice_get (slice_set xs n Solved ++ map Unsolved gs) m) ≡ unsolved_count (slice_get (slice_set xs n Solved) m) + times m (range_with_len k (length gs)))
-    (set_length xs n) (more_counted (slice_set xs n Solved) gs m) in
+    subst (Counts xs gs n m) (set_length xs n) (more_counted (slice_set xs n Solved) gs m) in
     omega (arith, parts, before, set, more)
 
 abandoned_first : (xs : List GoalStatus) (n : ℕ) (rest : List ℕ) (g : Goal) → slice_get xs n ≡ Some (Unsolved g) →
@@ -128,7 +132,8 @@ unsolved_is (Some (Unsolved h)) g e = let same : h ≡ g = cc in rw same refl
 unsolved_is (Some (GivenUp h)) g e = cc
 unsolved_is (Some Solved) g e = cc
 
-filled_focus : (xs : List GoalStatus) (gs : List Goal) (fs ws : List ℕ) (n : ℕ) (g : Goal) → slice_get fs 0 ≡ Some n → slice_get xs n ≡ Some (Unsolved g) →
+filled_focus : (xs : List GoalStatus) (gs : List Goal) (fs ws : List ℕ) (n : ℕ) (g : Goal) → slice_get fs 0 ≡ Some n →
+    slice_get xs n ≡ Some (Unsolved g) →
     AreUnsolved xs (fs ++ ws) → AreUnsolved (slice_set xs n Solved ++ map Unsolved gs) ((range_with_len (length xs) (length gs) ++ drop 1 fs) ++ ws)
 filled_focus xs gs [] ws n g first there are = cc
 filled_focus xs gs (k ∷ fs) ws n g first there are =
@@ -147,7 +152,8 @@ refined_if true x r e = cc
 refined_if false x r e = cc
 
 -- a proof move at the first goal in focus
-pub refined_agree : (p : Proof) (f : FocusState) (n : ℕ) (g : Goal) (by : Filling) (r : Refined) → slice_get f.goals 0 ≡ Some n → unsolved_at p.goals n ≡ Some g →
+pub refined_agree : (p : Proof) (f : FocusState) (n : ℕ) (g : Goal) (by : Filling) (r : Refined) → slice_get f.goals 0 ≡ Some n →
+    unsolved_at p.goals n ≡ Some g →
     refined_by p n by ≡ Ok r → Agrees p.goals f → Agrees r.proof.goals (replaced r.goals f)
 refined_agree p f n g (fill.Give s) r first there made agree =
     subst (λ x. Agrees x.proof.goals (replaced x.goals f)) (refined_if (nat_le (length p.goals + length (holes s)) GOAL_LIMIT) (refined n s p) r made)

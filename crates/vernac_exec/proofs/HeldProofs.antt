@@ -94,7 +94,8 @@ named_scoped env (h ∷ hs) scoped = (
   named_scoped env hs scoped.1,
 )
 
-started_kept : (env : List Slot) (inner : List Hyp) (statement : Tree) → AreParams inner → IsScopedContext (length env) inner → IsTermIn env inner statement →
+started_kept : (env : List Slot) (inner : List Hyp) (statement : Tree) → AreParams inner → IsScopedContext (length env) inner →
+    IsTermIn env inner statement →
     IsKept env (started (named_hyps env inner) statement)
 started_kept env inner statement plain hyps scoped =
     let term : IsTermIn env (named_hyps env inner) statement =
@@ -239,7 +240,8 @@ module _ (env : List Slot) (calls : ℕ) where
     sentence_keeps opened held kind text = tells_bind (any (give (reading kind text))) (λ r _. reading_keeps opened held r)
 
 -- the proof under way after a step
-progress_held : (env : List Slot) (opened : Option OpenProof) (proof : Proof) (focus : FocusState) → IsKept env proof → IsHeldProof env (with_progress opened proof focus)
+progress_held : (env : List Slot) (opened : Option OpenProof) (proof : Proof) (focus : FocusState) → IsKept env proof →
+    IsHeldProof env (with_progress opened proof focus)
 progress_held env None proof focus kept = tt
 progress_held env (Some o) proof focus kept = kept
 

@@ -4,8 +4,8 @@ use Rattle.std.specs.Ordering.{nat_cmp}
 use Rattle.std.specs.Cmp.Lexicographic.{slice_cmp}
 use Rattle.shared_map.specs.Entries.{look, PutsOnly}
 use Rattle.cic_rules.specs.Inductive.{has_twice}
-use Rattle.inductive_check.specs.Names.{IsIndex}
-use Rattle.inductive_check.proofs.NameLaws.{index_more}
+use Rattle.fresh_names.specs.Index.{IsIndex}
+use Rattle.fresh_names.proofs.NameLaws.{index_more}
 use Rattle.inductive_check.proofs.PartLaws.{twice_at, twice_not}
 
 -- an index of the names behind a place, of which none stands twice

@@ -82,7 +82,8 @@ module _ (env : List Slot) where
 
   module _ (inner : List Hyp → ℕ → Tree → Tree → Values → Run (Option Values))
       (inners : (ctx : List Hyp) (binders : ℕ) (p t : Tree) (values : Values) → binders ≤ length ctx →
-      AreValues (length ctx - binders) (length env) values → IsTermIn env ctx t → Tells (inner ctx binders p t values) (Finds env ctx binders values)) where
+      AreValues (length ctx - binders) (length env) values → IsTermIn env ctx t →
+      Tells (inner ctx binders p t values) (Finds env ctx binders values)) where
     under_found : (ctx : List Hyp) (h : Hyp) (binders : ℕ) (p t : Tree) (values : Values) → binders ≤ length ctx →
         AreValues (length ctx - binders) (length env) values → IsScoped (suc (length ctx)) (length env) t →
         Tells (match_under inner ctx h binders p t values) (Finds env ctx binders values)
@@ -100,7 +101,8 @@ module _ (env : List Slot) where
         then_found ctx binders values found (match_under inner ctx h binders q u) one (λ vs more. under_found ctx h binders q u vs within more second))
 
     nodes_found : (ctx : List Hyp) (binders : ℕ) (p t : Tree) (values : Values) → binders ≤ length ctx →
-        AreValues (length ctx - binders) (length env) values → IsTermIn env ctx t → Tells (match_nodes inner ctx binders p t values) (Finds env ctx binders values)
+        AreValues (length ctx - binders) (length env) values → IsTermIn env ctx t →
+        Tells (match_nodes inner ctx binders p t values) (Finds env ctx binders values)
     nodes_found ctx binders (Var i) t values within all scoped =
         tells_pure _ (variable_found env ctx binders (i - binders) values (Sorted PropSort) t (set_value values (i - binders) (without_binders t binders))
         (record { within = within; pattern = tt; found = all }) scoped refl)
@@ -123,7 +125,8 @@ module _ (env : List Slot) where
       tells_step (check_size p) (tells_bind (any (conv_at env calls ctx Same p t)) (λ same _. tells_pure _ (same_found ctx binders values same all)))
 
   match_found : (calls : ℕ) (ctx : List Hyp) (binders : ℕ) (p t : Tree) (values : Values) → binders ≤ length ctx →
-      AreValues (length ctx - binders) (length env) values → IsTermIn env ctx t → Tells (match_at env calls ctx binders p t values) (Finds env ctx binders values)
+      AreValues (length ctx - binders) (length env) values → IsTermIn env ctx t →
+      Tells (match_at env calls ctx binders p t values) (Finds env ctx binders values)
   unfolding match_at
   match_found zero ctx binders p t values within all scoped = tells_stop _
   match_found (suc calls) ctx binders p t values within all scoped =
@@ -202,7 +205,8 @@ module _ (env : List Slot) where
         argument_by_in ctx (fill values (lift_of a count 0) 0) used (value_at values (count - 1)) hyps
         (fill_scoped (length ctx) (length env) (length ctx + length values) (length ctx) 0 values (lift_of a count 0) refl (omega arith) lifted all settled))
 
-    arguments_in : (ctx : List Hyp) (values : Values) (count : ℕ) (ty : Tree) (function : Partial Goal) → IsScopedContext (length env) ctx → AreSet ctx values →
+    arguments_in : (ctx : List Hyp) (values : Values) (count : ℕ) (ty : Tree) (function : Partial Goal) →
+        IsScopedContext (length env) ctx → AreSet ctx values →
         count ≤ length values → IsScoped (length ctx + (length values - count)) (length env) ty → IsSketchIn env ctx function →
         Tells (with_arguments env calls ctx values count ty function) (IsSketchIn env ctx)
     arguments_in ctx values count (Prod n a b) function hyps all within scoped sketch =
@@ -292,10 +296,12 @@ module _ (env : List Slot) where
     intros_in (w ∷ ws) ctx ty hyps scoped = named_in (w ∷ ws) ctx ty hyps scoped
 
     -- whole terms
-    exact_in : (ctx : List Hyp) (ty t : Tree) → IsTermIn env ctx t → IsScopedContext (length env) ctx → Tells (exact env calls ctx ty t) (IsSketchIn env ctx)
+    exact_in : (ctx : List Hyp) (ty t : Tree) → IsTermIn env ctx t → IsScopedContext (length env) ctx →
+        Tells (exact env calls ctx ty t) (IsSketchIn env ctx)
     exact_in ctx ty t term hyps = tells_bind (scope_of_checks env is calls ctx hyps t ty) (λ used judged. tells_pure (Ready t) judged.term)
 
-    assumed_in : (ctx : List Hyp) (ty : Tree) (i : ℕ) (hs : List Hyp) → i + length hs ≡ length ctx → Tells (assumed env calls ctx ty i hs) (IsSketchIn env ctx)
+    assumed_in : (ctx : List Hyp) (ty : Tree) (i : ℕ) (hs : List Hyp) → i + length hs ≡ length ctx →
+        Tells (assumed env calls ctx ty i hs) (IsSketchIn env ctx)
     assumed_in ctx ty i [] count = tells_stop _
     assumed_in ctx ty i (h ∷ hs) count =
         tells_bind (any (tried env calls ctx ty i h)) (λ fits _. tells_if fits (λ _. tells_pure (Ready (Var i)) (omega (arith, count)))

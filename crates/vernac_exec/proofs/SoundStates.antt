@@ -126,7 +126,8 @@ module _ (env : List Slot) (calls : ℕ) where
   admitted_adds : (name : List ℕ) (ty : Tree) → Tells (assume_at env calls name ty Admitted) (Adds env true)
   admitted_adds name ty = tells_bind (any (sort_of_at env calls [] ty)) (λ s _. enter_adds true name ty Admitted s.used refl)
 
-  define_adds : (name : List ℕ) (ty : Option Tree) (body : Tree) (opaque : Bool) → Tells (define_at env calls name ty body (Defined body opaque)) (Adds env false)
+  define_adds : (name : List ℕ) (ty : Option Tree) (body : Tree) (opaque : Bool) →
+      Tells (define_at env calls name ty body (Defined body opaque)) (Adds env false)
   define_adds name (Some ty) body opaque =
       tells_bind (any (sort_of_at env calls [] ty)) (λ s _. tells_bind (any (check_at env calls [] body ty))
       (λ used _. enter_adds false name ty (Defined body opaque) _ refl))
@@ -199,7 +200,8 @@ module _ (env : List Slot) (calls : ℕ) where
       (tells_bind (any (open_groups env calls [] groups)) (λ inner _. tells_bind (any (elab_annotation env calls inner a)) (λ ty _.
       tells_bind (any (elab_over env calls Function inner s)) (λ value _. declare_does item.Definition (Define name ty value false) refl))))
 
-  family_does : (name : List ℕ) (params : List Hyp) (arity : Tree) (cs : List Constructor) → Tells (elab_family env calls name params arity cs) (IsDeedIn env)
+  family_does : (name : List ℕ) (params : List Hyp) (arity : Tree) (cs : List Constructor) →
+      Tells (elab_family env calls name params arity cs) (IsDeedIn env)
   family_does name params arity cs =
       tells_step (check_size (type_of_decl (family name params arity [])))
       (tells_bind (any (give (entered env (assumed_type (family name params arity []))))) (λ inner _.
@@ -338,11 +340,13 @@ formed_by : (m : State) (r : Result Reading Stop) (answer : Result Deed Stop) �
 formed_by m r (Ok deed) put h is = done_formed m deed (h deed refl) is
 formed_by m r (Err stop) put h is = refused_formed m (is_end_of r) put is
 
-with_put : (env : List Slot) (opened : Option OpenProof) (proof : Proof) (focus : FocusState) → IsPutBy env opened → IsPutBy env (with_progress opened proof focus)
+with_put : (env : List Slot) (opened : Option OpenProof) (proof : Proof) (focus : FocusState) → IsPutBy env opened →
+    IsPutBy env (with_progress opened proof focus)
 with_put env None proof focus put = tt
 with_put env (Some o) proof focus put = put
 
-declared_sound : (m : State) (kind : ItemKind) (made : List Slot) → Grows m.env (is_taken_for_granted kind) made → IsSound m → IsSound (declared m kind made)
+declared_sound : (m : State) (kind : ItemKind) (made : List Slot) → Grows m.env (is_taken_for_granted kind) made → IsSound m →
+    IsSound (declared m kind made)
 declared_sound m kind made g is = record {
   environment = g.formed is.environment;
   rows = subst (λ env. All (IsRowIn env) (m.outline ++ next_row m kind ∷ [])) (sym g.parts) (all_rows m kind g.first g.more g.kind is.rows);

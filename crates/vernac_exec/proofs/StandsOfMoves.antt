@@ -80,7 +80,8 @@ module _ (P : ℕ → ℕ → Type 0) where
   at_filled : (env : List Slot) (calls : ℕ) (ctx : List Hyp) (p t : Tree) (values : Values) → Stands P (match_filled env calls ctx p t values)
   at_filled env calls ctx p t values = search (stands_laws, convs) depth 12
 
-  at_match : (env : List Slot) (calls : ℕ) (ctx : List Hyp) (binders : ℕ) (p t : Tree) (values : Values) → Stands P (match_at env calls ctx binders p t values)
+  at_match : (env : List Slot) (calls : ℕ) (ctx : List Hyp) (binders : ℕ) (p t : Tree) (values : Values) →
+      Stands P (match_at env calls ctx binders p t values)
   unfolding match_at
   at_match env zero ctx binders p t values = search (stands_laws)
   at_match env (suc calls) ctx binders p t values =
@@ -225,7 +226,8 @@ module _ (P : ℕ → ℕ → Type 0) where
   counted_by true number step at = at
   counted_by false number step at = tt
 
-  at_constructor_by : (env : List Slot) (count index number : ℕ) (t : Tree) (d : Option InductiveDecl) → StepAt P (constructor_by env count index number t d)
+  at_constructor_by : (env : List Slot) (count index number : ℕ) (t : Tree) (d : Option InductiveDecl) →
+      StepAt P (constructor_by env count index number t d)
   at_constructor_by env count index number t None = tt
   at_constructor_by env count index number t (Some d) =
       counted_by (length d.ctors == count) number (at_place number (length d.params) t (place_of env (slice_get d.ctors index)))

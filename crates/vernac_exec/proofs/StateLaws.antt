@@ -160,7 +160,8 @@ module _ (env : List Slot) (calls : ℕ) where
       (tells_bind (any (open_groups env calls [] groups)) (λ inner _. tells_bind (any (elab_annotation env calls inner a)) (λ ty _.
       tells_bind (any (elab_over env calls Function inner s)) (λ value _. declare_does None item.Definition (Define name ty value false)))))
 
-  family_does : (name : List ℕ) (params : List Hyp) (arity : Tree) (cs : List Constructor) → Tells (elab_family env calls name params arity cs) (IsDeedOf env None)
+  family_does : (name : List ℕ) (params : List Hyp) (arity : Tree) (cs : List Constructor) →
+      Tells (elab_family env calls name params arity cs) (IsDeedOf env None)
   family_does name params arity cs =
       tells_step (check_size (type_of_decl (family name params arity [])))
       (tells_bind (any (give (entered env (assumed_type (family name params arity []))))) (λ inner _.
@@ -339,7 +340,8 @@ admitted_keeps : (m : State) (opened : Option OpenProof) → PutsBy m.env opened
 admitted_keeps m None put is = is
 admitted_keeps m (Some o) put is = put.1
 
-refused_keeps : (m : State) (b : Bool) → PutsBy m.env m.opened → IsEnvironment m.env → IsEnvironment (if b then entered_as_admitted m m.opened else passed m).env
+refused_keeps : (m : State) (b : Bool) → PutsBy m.env m.opened → IsEnvironment m.env →
+    IsEnvironment (if b then entered_as_admitted m m.opened else passed m).env
 refused_keeps m true put is = admitted_keeps m m.opened put is
 refused_keeps m false put is = is
 
