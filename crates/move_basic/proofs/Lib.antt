@@ -8,5 +8,4 @@ pub mod Parameters
 pub mod Constructed
 pub mod Openings
 pub mod Equations
-pub mod Fillings
 pub mod Samples
