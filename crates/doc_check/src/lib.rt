@@ -3,6 +3,8 @@
 
 mod checking;
 mod diagnostics;
+pub mod document;
+mod finished;
 mod incremental;
 mod sentences;
 
