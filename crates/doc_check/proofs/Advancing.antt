@@ -1,5 +1,5 @@
 -- A document advances, or its text changes.
-use Rattle.std.proofs.Common.{◌≡◌, ℕ, ◌+◌, ◌<◌, ◌≤◌, min, Bool, true, false, Result, Ok, Err, OnOk, List, [], ◌∷◌, length, length-take, get_or, take, refl, sym, ◌∙◌, ap, subst, arith}
+use Rattle.std.proofs.Common.{◌≡◌, ℕ, ◌+◌, ◌<◌, ◌≤◌, min, Result, Ok, Err, OnOk, List, [], length-take, get_or, take, refl, sym, ◌∙◌, ap, subst, arith}
 use Rattle.std.specs.List.{common_prefix_len}
 use Rattle.std.proofs.lemmas.Grind.{common_steps}
 use Rattle.base_core.specs.declared.memory.NoMem.{NoMem}
@@ -12,7 +12,7 @@ use Rattle.memo_table.specs.declared.table.Kept.{Kept}
 use Rattle.memo_table.specs.Table.{Table, with_rows, with_kept}
 use Rattle.memo_table.specs.Fits.{Fits}
 use Rattle.doc_check.specs.declared.incremental.Advance.{Advance}
-use Rattle.doc_check.specs.Document.{Doc, doc, parts, first_parts, done, next_of, next_key, state_here, took, taken, same_sentence, changed}
+use Rattle.doc_check.specs.Document.{Doc, doc, parts, done, next_of, next_key, state_here, took, taken, same_sentence, changed}
 use Rattle.doc_check.specs.Stands.{Follows, Stands, Moved, IsKept, Runs, Advanced, cost_here}
 use Rattle.doc_check.proofs.Trail.{first_same}
 

@@ -6,7 +6,6 @@ use Rattle.std.proofs.lemmas.List.{take_more}
 use Rattle.std.proofs.lemmas.List.Concat.{flat_map-append}
 use Rattle.base_core.specs.declared.kind.Kind.TheVariants.{Plain}
 use Rattle.sentence_split.specs.declared.spans.Span.{Span}
-use Rattle.sentence_split.specs.Sentences.{sentences}
 use Rattle.prover_iface.specs.Meanings.{Meanings}
 use Rattle.doc_check.specs.declared.diagnostics.AbsDiag.{AbsDiag}
 use Rattle.doc_check.specs.Check.{sentence_at, span_of, count, state_from, state_after, told_at, told}

@@ -12,7 +12,7 @@ use Rattle.prover_iface.specs.declared.diagnostics.RelDiag.{RelDiag}
 use Rattle.prover_iface.specs.Meanings.{Meanings}
 use Rattle.prover_iface.specs.Laws.{IsDiag, TellsWithin}
 use Rattle.doc_check.specs.declared.diagnostics.AbsDiag.{AbsDiag}
-use Rattle.doc_check.specs.Check.{sentence_at, shifted, told_at, told, left_open, IsPlaced}
+use Rattle.doc_check.specs.Check.{sentence_at, shifted, told, left_open, IsPlaced}
 
 nothing_told : (n : ℕ) → All (IsPlaced n) []
 nothing_told n = λ k d h. absurd (omega arith)

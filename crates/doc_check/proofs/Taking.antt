@@ -1,5 +1,5 @@
 -- Kept sentences are taken, and new ones are entered.
-use Rattle.std.proofs.Common.{◌≡◌, ℕ, ◌+◌, ◌-◌, ◌<◌, ◌≤◌, nat_le, nat_eq, Bool, true, false, cond, Option, Some, None, IsSome, Result, Ok, Err, List, [], ◌∷◌, ◌++◌, length, length-append, map, get_or, take, zero, suc, refl, sym, ◌∙◌, ap, subst, arith, inl, inr, ◌⊎◌}
+use Rattle.std.proofs.Common.{◌≡◌, ℕ, ◌+◌, ◌-◌, ◌<◌, ◌≤◌, nat_eq, Bool, true, false, Option, Some, None, IsSome, List, [], ◌∷◌, ◌++◌, length, length-append, get_or, zero, suc, refl, sym, ◌∙◌, ap, subst, arith, inl, inr, ◌⊎◌}
 use Rattle.std.proofs.lemmas.Bool.Decides.{nat_tests}
 use Rattle.std.proofs.lemmas.Grind.{common_steps}
 use Rattle.prover_iface.specs.Sentences.{Sentence}
@@ -8,11 +8,11 @@ use Rattle.memo_table.specs.declared.key.Key.{Key}
 use Rattle.memo_table.specs.declared.slots.Entry.{Entry}
 use Rattle.memo_table.specs.declared.table.Kept.{Kept}
 use Rattle.memo_table.specs.Entries.{number_of, made_of, touched}
-use Rattle.memo_table.specs.Table.{Table, with_rows, with_kept}
-use Rattle.memo_table.specs.Fits.{sentence_of, behind_key, extended, IsMade, Fits}
+use Rattle.memo_table.specs.Table.{Table, with_rows}
+use Rattle.memo_table.specs.Fits.{behind_key, extended, IsMade, Fits}
 use Rattle.memo_table.proofs.Standing.{touched_fits, kept_fits, number_stands, entry_stands, number_is_held}
 use Rattle.doc_check.specs.Check.{count}
-use Rattle.doc_check.specs.Document.{Doc, doc, first_parts, state_at, done, all_done, last_of, next_of, next_key, state_here, with_number, Took, took, taken_by, taken_most, taken, IsTaken}
+use Rattle.doc_check.specs.Document.{Doc, first_parts, done, all_done, last_of, next_of, next_key, state_here, with_number, took, taken_by, taken_most, taken, IsTaken}
 use Rattle.doc_check.specs.Stands.{Follows, Stands, Moved, IsHeld, IsKept, TookOne}
 use Rattle.doc_check.proofs.Trail.{first_more}
 

@@ -1,5 +1,5 @@
 -- What comes of sentences, one after another, and what is kept of a document.
-use Rattle.std.proofs.Common.{◌≡◌, ℕ, ◌+◌, ◌-◌, ◌<◌, ◌≤◌, nat_le, Bool, true, false, cond, min, List, [], ◌∷◌, ◌++◌, length, map, fold, get_or, take, append-nil, length-take, zero, suc, refl, sym, ◌∙◌, ap, subst, arith, All}
+use Rattle.std.proofs.Common.{◌≡◌, ℕ, ◌+◌, ◌-◌, ◌<◌, ◌≤◌, Bool, true, false, cond, min, List, [], ◌∷◌, ◌++◌, length, map, fold, get_or, take, length-take, zero, suc, refl, sym, ◌∙◌, ap, subst, arith, All}
 use Rattle.std.specs.List.{common_prefix_len}
 use Rattle.std.proofs.lemmas.Bool.Decides.{nat_tests}
 use Rattle.std.proofs.lemmas.Grind.{common_steps}
@@ -14,7 +14,6 @@ use Rattle.prover_iface.specs.declared.diagnostics.RelDiag.{RelDiag}
 use Rattle.prover_iface.specs.Sentences.{Sentence, sentence}
 use Rattle.prover_iface.specs.Meanings.{Meanings, state_behind}
 use Rattle.memo_table.specs.declared.key.Key.{Key}
-use Rattle.memo_table.specs.Entries.{same_key}
 use Rattle.memo_table.proofs.Keys.{key_same}
 use Rattle.doc_check.specs.Check.{sentence_at, span_of, count}
 use Rattle.doc_check.specs.Document.{Doc, doc, parts, first_parts, state_at, done, all_done, next_of, state_here, same_sentence, changed}

@@ -1,6 +1,6 @@
 -- A document whose finished sentences have numbers in a table of finished sentences, and how it takes from the
 -- table what is kept there.
-use Rattle.std.specs.Prelude.{◌≡◌, ℕ, zero, suc, ◌+◌, ◌-◌, nat_le, Bool, ◌&&◌, false, Option, None, Some, List, [], ◌∷◌, ◌++◌, map, length, take, min, slice_index_or, bytes_eq}
+use Rattle.std.specs.Prelude.{◌≡◌, ℕ, zero, suc, ◌-◌, nat_le, Bool, ◌&&◌, false, Option, None, Some, List, [], ◌∷◌, ◌++◌, map, length, take, min, slice_index_or, bytes_eq}
 use Rattle.std.specs.List.{common_prefix_len}
 use Rattle.base_core.specs.contracts.kind.KindPartialEq.TheImpl as kinds
 use Rattle.sentence_split.specs.Sentences.{sentences}

@@ -1,5 +1,5 @@
 -- What is kept of a document, what its numbers stand for in a table, and how both move.
-use Rattle.std.specs.Prelude.{◌≡◌, ℕ, ◌+◌, ◌<◌, ◌≤◌, Bool, true, false, if◌then◌else◌, Result, Ok, Err, Some, List, [], ◌∷◌, ◌++◌, length, slice_index_or, All, ◌⊎◌}
+use Rattle.std.specs.Prelude.{◌≡◌, ℕ, ◌+◌, ◌<◌, ◌≤◌, Bool, true, false, if◌then◌else◌, Result, Ok, Err, Some, List, [], ◌∷◌, length, slice_index_or, All}
 use Rattle.base_core.specs.declared.limits.TheConstants.{TEXT_LIMIT}
 use Rattle.base_core.specs.declared.memory.NoMem.{NoMem}
 use Rattle.sentence_split.specs.declared.spans.Span.{Span}
@@ -15,7 +15,7 @@ use Rattle.memo_table.specs.Table.{Table, with_rows, with_kept}
 use Rattle.memo_table.specs.Fits.{IsMade, Fits}
 use Rattle.doc_check.specs.declared.incremental.Advance.{Advance}
 use Rattle.doc_check.specs.declared.incremental.Advance.TheVariants as advance
-use Rattle.doc_check.specs.Check.{count, cost_at}
+use Rattle.doc_check.specs.Check.{count}
 use Rattle.doc_check.specs.Document.{Doc, first_parts, done, all_done, next_of, next_key, state_here, with_number, taken}
 
 -- what comes of sentences, one after another: the state behind each, and what is told of it

@@ -1,6 +1,5 @@
 use Rattle.std.proofs.Common.{sym}
 use Rattle.doc_check.proofs.Trail.{put_seen}
-use Rattle.doc_check.proofs.Taking.{moved_behind}
 use Rattle.doc_check.proofs.document.DocCheck.put.Goals as goal
 
 pub invariant_of-self-2 : goal.invariant_of-self-2

@@ -1,4 +1,4 @@
-use Rattle.std.proofs.Common.{rules, sym, subst}
+use Rattle.std.proofs.Common.{sym, subst}
 use Rattle.doc_check.specs.Stands.{Follows}
 use Rattle.doc_check.proofs.Advancing.{changed_follows, changed_stands, stands_from}
 use Rattle.doc_check.proofs.document.DocCheck.set_text.Goals as goal

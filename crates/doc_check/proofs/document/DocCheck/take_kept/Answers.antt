@@ -1,4 +1,4 @@
-use Rattle.std.proofs.Common.{rules, ◌∙◌}
+use Rattle.std.proofs.Common.{◌∙◌}
 use Rattle.doc_check.proofs.Taking.{under_start, under_stands, on_stands, on_rows, under_on, under_ends, smaller}
 use Rattle.doc_check.proofs.document.DocCheck.take_kept.Goals as goal
 
