@@ -4,3 +4,4 @@ pub mod Trail
 pub mod Taking
 pub mod Shared
 pub mod Advancing
+pub mod Telling

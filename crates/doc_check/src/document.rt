@@ -10,12 +10,13 @@ ghost use Rattle.prover_iface.specs.Exec.{Answers, Works};
 ghost use Rattle.memo_table.specs.Entries.{number_of};
 ghost use Rattle.memo_table.specs.Table.{with_rows};
 ghost use Rattle.memo_table.specs.Fits.{Fits};
-ghost use Rattle.doc_check.specs.Check.{sentence_at, span_of, count};
+ghost use Rattle.doc_check.specs.Check.{sentence_at, span_of, count, checked, IsPlaced};
 ghost use Rattle.doc_check.specs.Document.{doc, parts, state_at, done, all_done, last_of, next_of, next_key, state_here, with_number, taken, took, IsTaken, same_sentence, changed};
 ghost use Rattle.doc_check.specs.Stands.{Follows, Stands, Moved, IsHeld, IsKept, Runs, Advanced, cost_here, TookOne};
 
-use crate::Advance;
 use crate::finished::{Finished, copy_of, from_kept};
+use crate::reporting::report_diags;
+use crate::{Advance, Report};
 use base_core::{NoMem, Steps, Text};
 use memo_table::{Kept, Key, MemoTable};
 use prover_iface::{DiagList, Outcome, Prover};
@@ -425,6 +426,25 @@ impl<P: Prover> DocCheck<P> {
     {
         self.change(alloc, text, first_changed)?;
         self.take_kept(alloc, prover, table)
+    }
+
+    /// All that is told of the text, and what it declares.
+    pub fn report(&self, alloc: Global, prover: &P) -> Result<Report, NoMem>
+        requires { all_done self.now ≡ true }
+        ensures report { IfOk result (λ report. report ≡ checked P.means self.now.text) }
+        ensures placed { IfOk result (λ report. All (IsPlaced (length self.now.text)) report.diags) }
+    {
+        let last = self.state_after(self.done());
+        let diags = report_diags(
+            alloc,
+            prover,
+            last,
+            self.text.as_str(),
+            &self.spans,
+            self.finished.as_slice(),
+        )?;
+        let outline = prover.outline(alloc, last)?;
+        Ok(Report { diags, outline })
     }
 }
 

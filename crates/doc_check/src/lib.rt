@@ -6,6 +6,7 @@ mod diagnostics;
 pub mod document;
 mod finished;
 mod incremental;
+mod reporting;
 mod sentences;
 
 pub use checking::check_text;
