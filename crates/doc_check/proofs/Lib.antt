@@ -1,2 +1,7 @@
 pub mod Placed
 pub mod More
+pub mod Trail
+pub mod Taking
+pub mod Shared
+pub mod Advancing
+pub mod Telling

@@ -6,7 +6,6 @@ use Rattle.std.proofs.lemmas.List.{take_more}
 use Rattle.std.proofs.lemmas.List.Concat.{flat_map-append}
 use Rattle.base_core.specs.declared.kind.Kind.TheVariants.{Plain}
 use Rattle.sentence_split.specs.declared.spans.Span.{Span}
-use Rattle.sentence_split.specs.Sentences.{sentences}
 use Rattle.prover_iface.specs.Meanings.{Meanings}
 use Rattle.doc_check.specs.declared.diagnostics.AbsDiag.{AbsDiag}
 use Rattle.doc_check.specs.Check.{sentence_at, span_of, count, state_from, state_after, told_at, told}
@@ -17,7 +16,7 @@ module _ {M : Type 0} (means : Meanings M) (text : List ℕ) where
   state-push m [] s = refl
   state-push m (x ∷ xs) s = state-push (means.after m (sentence_at text x)) xs s
 
-  told-push : (m : M) (xs : List Span) (s : Span) → told means m text (xs ++ s ∷ []) ≡ told means m text xs ++ told_at means (state_from means m text xs) text s
+  pub told-push : (m : M) (xs : List Span) (s : Span) → told means m text (xs ++ s ∷ []) ≡ told means m text xs ++ told_at means (state_from means m text xs) text s
   told-push m [] s = append-nil (told_at means m text s)
   told-push m (x ∷ xs) s =
       let here : List AbsDiag = told_at means m text x in

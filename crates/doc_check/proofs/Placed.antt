@@ -12,7 +12,7 @@ use Rattle.prover_iface.specs.declared.diagnostics.RelDiag.{RelDiag}
 use Rattle.prover_iface.specs.Meanings.{Meanings}
 use Rattle.prover_iface.specs.Laws.{IsDiag, TellsWithin}
 use Rattle.doc_check.specs.declared.diagnostics.AbsDiag.{AbsDiag}
-use Rattle.doc_check.specs.Check.{sentence_at, shifted, told_at, told, left_open, IsPlaced}
+use Rattle.doc_check.specs.Check.{sentence_at, shifted, told, left_open, IsPlaced}
 
 nothing_told : (n : ℕ) → All (IsPlaced n) []
 nothing_told n = λ k d h. absurd (omega arith)
@@ -34,10 +34,10 @@ one-placed text span diags s h =
     All-from_recursion (IsPlaced (length text)) (map (shifted span.from) diags)
     (diags-placed text span diags s (recursion_from_All (IsDiag (slice_range text span.from span.to)) diags h))
 
-sentence-utf8 : (text : List ℕ) (span : Span) → IsUtf8 text → IsSpanOf text span → IsUtf8 (slice_range text span.from span.to)
+pub sentence-utf8 : (text : List ℕ) (span : Span) → IsUtf8 text → IsSpanOf text span → IsUtf8 (slice_range text span.from span.to)
 sentence-utf8 text span utf8 s = IsUtf8-between text span.from span.to utf8 s.ordered s.from_cut s.to_cut
 
-sentence-short : (text : List ℕ) (span : Span) → length text ≤ TEXT_LIMIT → length (slice_range text span.from span.to) < 2 ^ 32
+pub sentence-short : (text : List ℕ) (span : Span) → length text ≤ TEXT_LIMIT → length (slice_range text span.from span.to) < 2 ^ 32
 sentence-short text span short = omega (arith, length-take (span.to - span.from) (drop span.from text), length-drop span.from text, short)
 
 told-placed : {M : Type 0} (means : Meanings M) (law : TellsWithin means.diagnosed) (text : List ℕ) → IsUtf8 text → length text ≤ TEXT_LIMIT → (m : M) (spans : List Span) → AllByRecursion (IsSpanOf text) spans → All (IsPlaced (length text)) (told means m text spans)

@@ -3,7 +3,10 @@
 
 mod checking;
 mod diagnostics;
+pub mod document;
+mod finished;
 mod incremental;
+mod reporting;
 mod sentences;
 
 pub use checking::check_text;

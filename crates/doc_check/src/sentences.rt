@@ -15,7 +15,7 @@ use std::alloc::Global;
 use std::sync::ledger::Ledger;
 
 /// Adds what is told of a sentence, at its place in the text.
-fn add_shifted(
+pub(crate) fn add_shifted(
     alloc: Global,
     diags: &mut AbsDiagList,
     given: &[RelDiag],
