@@ -1,5 +1,5 @@
 -- The law of fuel for each move.
-use Rattle.coq_syntax.specs.MoveTrees.{Move, Intro, Intros, Exact, Apply, Assumption, Split, Left, Right, Reflexivity, Simpl, Unfold, Destruct, Induction, Rewrite}
+use Rattle.coq_syntax.specs.MoveTrees.{Intro, Intros, Exact, Apply, Assumption, Split, Left, Right, Reflexivity, Simpl, Unfold, Destruct, Induction, Rewrite}
 use Rattle.coq_syntax.specs.MoveTrees as move
 use Rattle.cic_rules.specs.Laws.{KeepsLawOfFuel}
 use Rattle.cic_rules.specs.Runs.{Run}

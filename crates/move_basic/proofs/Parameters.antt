@@ -17,9 +17,11 @@ take_all (x ∷ xs) zero le = absurd (omega (arith, le))
 take_all (x ∷ xs) (suc k) le = ap (λ ys. x ∷ ys) (take_all xs k (omega (arith, le)))
 
 -- how many are left
-pub all_kept : (params place : ℕ) (t : Tree) → length (arguments_of t) ≤ params → at_params (length (arguments_of t) - 0) place t ≡ at_params params place t
+pub all_kept : (params place : ℕ) (t : Tree) → length (arguments_of t) ≤ params →
+    at_params (length (arguments_of t) - 0) place t ≡ at_params params place t
 all_kept params place t le =
-    ap (apply_all (Constant place)) (take_all (arguments_of t) (length (arguments_of t) - 0) (omega arith) ∙ sym (take_all (arguments_of t) params le))
+    ap (apply_all (Constant place))
+    (take_all (arguments_of t) (length (arguments_of t) - 0) (omega arith) ∙ sym (take_all (arguments_of t) params le))
 
 pub last_dropped : (params place count : ℕ) (t : Tree) → count ≡ length (arguments_of t) → params < count →
     at_params (length (arguments_of t) - (count - params)) place t ≡ at_params params place t
@@ -36,7 +38,8 @@ without_last last place f a some =
     ap (apply_all (Constant place)) (sym (take-append-le (length (arguments_of f) - (last - 1)) (arguments_of f) (a ∷ []) (omega arith)))
     ∙ ap (λ n. at_params n place (App f a)) (sym k)
 
-with_last : (place : ℕ) (f a : Tree) → App (at_params (length (arguments_of f) - 0) place f) a ≡ at_params (length (arguments_of (App f a)) - 0) place (App f a)
+with_last : (place : ℕ) (f a : Tree) →
+    App (at_params (length (arguments_of f) - 0) place f) a ≡ at_params (length (arguments_of (App f a)) - 0) place (App f a)
 with_last place f a =
     ap (λ xs. App (apply_all (Constant place) xs) a) (take_all (arguments_of f) (length (arguments_of f) - 0) (omega arith))
     ∙ sym (applied_twice (Constant place) (arguments_of f) (a ∷ []))
@@ -45,7 +48,8 @@ with_last place f a =
 none_dropped : (last place : ℕ) (t f a : Tree) → App f a ≡ t → last ≡ 0 →
     App (at_params (length (arguments_of f) - 0) place f) a ≡ at_params (length (arguments_of t) - last) place t
 none_dropped last place t f a is none =
-    with_last place f a ∙ ap (λ u. at_params (length (arguments_of u) - 0) place u) is ∙ ap (λ n. at_params (length (arguments_of t) - n) place t) (sym none)
+    with_last place f a ∙ ap (λ u. at_params (length (arguments_of u) - 0) place u) is
+    ∙ ap (λ n. at_params (length (arguments_of t) - n) place t) (sym none)
 
 made_is : (b : Bool) (u v : Tree) → Gives {A = Tree} (Ok u) (if b then Ok v else Err TooLarge) → u ≡ v
 made_is true u v made = cc
