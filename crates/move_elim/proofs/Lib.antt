@@ -1,0 +1,3 @@
+pub mod FuelOfEliminations
+pub mod SiteLaws
+mod Samples
