@@ -1,3 +1,7 @@
 pub mod FuelOfEliminations
+pub mod Lists
 pub mod SiteLaws
+pub mod ArgumentLaws
+pub mod ContextLoops
+pub mod Binders
 mod Samples

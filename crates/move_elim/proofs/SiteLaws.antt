@@ -4,6 +4,7 @@ use Rattle.std.proofs.Common.{arith, ap, sym, ◌∙◌, subst}
 use Rattle.std.proofs.lemmas.Bool.Decides.{nat_tests}
 use Rattle.core_term.specs.Answers.{within_limits}
 use Rattle.core_term.specs.declared.stops.TermStop.TheVariants.{TooLarge}
+use Rattle.core_term.proofs.Bounds.{bounded-term}
 use Rattle.core_term.specs.Places.{lift_of}
 use Rattle.core_term.specs.Tree.{Tree, Var, Sorted, Constant, Prod, Lam, LetIn, App, IsTerm, IsNumbered, size_of, depth_of, is_small}
 use Rattle.term_spine.specs.SpineLaws.{AreOver, AreShallow}
@@ -148,3 +149,6 @@ levels_length (suc n) = ap suc (levels_length n)
 
 pub levels_next : (n : ℕ) → levels_of (n + 1) ≡ n ∷ levels_of n
 levels_next n = let up : n + 1 ≡ suc n = omega arith in ap levels_of up
+
+pub term_is_within : (t : Tree) → IsTerm t → Ok t ≡ within_limits t
+term_is_within t is = sym (bounded-term t is)

@@ -1,6 +1,16 @@
 //! What is shown of each constructor.
-use base_core::NumberList;
-use core_term::Term;
+ghost use Rattle.std.specs.Prelude.{◌≡◌};
+ghost use Rattle.core_term.specs.Answers.{within_limits, Gives};
+ghost use Rattle.cic_rules.specs.Eliminators.{is_in_prop as is_proposition, is_prop as is_prop_tree};
+ghost use Rattle.term_spine.specs.Spine.{end_of_products};
+ghost use Rattle.move_elim.specs.Claims.{over_value as value_over};
+ghost use Rattle.move_elim.specs.Generalised.{under_value as value_under};
+
+use base_core::{NumberList, Text};
+use cic_rules::InductiveDecl;
+use core_term::{Node, Sort, Term, TermStop};
+use fresh_names::initial;
+use std::alloc::Global;
 
 /// The goal as a function of the indices, and of the value where the type is no proposition.
 #[derive(Drop)]
@@ -16,4 +26,63 @@ pub struct Claim {
     /// How many hypotheses there are.
     pub below: u32,
     pub is_prop: bool,
+}
+
+/// Whether a type ends in `Prop`.
+fn ends_in_prop(t: &Term) -> bool
+    ensures { result ≡ is_prop_tree (end_of_products t.now) }
+{
+    match t.node() {
+        Node::Prod { codomain, .. } => ends_in_prop(codomain),
+        Node::Sorted(Sort::PropSort) => true,
+        Node::Sorted(Sort::SetSort) => false,
+        Node::Sorted(Sort::TypeSort(_)) => false,
+        Node::Var(_) => false,
+        Node::Constant(_) => false,
+        Node::Lam { .. } => false,
+        Node::LetIn { .. } => false,
+        Node::App { .. } => false,
+    }
+}
+
+/// Whether an inductive type is a proposition.
+pub(crate) fn is_in_prop(d: &InductiveDecl) -> bool
+    ensures { result ≡ is_proposition d.now }
+{
+    ends_in_prop(&d.arity)
+}
+
+/// The motive over the value, whose type is the family.
+#[tactic(auto, using(crate::proofs::SiteLaws::term_is_within))]
+pub(crate) fn over_value(
+    alloc: Global,
+    d: &InductiveDecl,
+    family: Term,
+    body: Term,
+) -> Result<Term, TermStop>
+    ensures { Gives result (within_limits (value_over d.now family body)) }
+{
+    if is_in_prop(d) {
+        let _depth = body.depth();
+        return Ok(body);
+    }
+    let name = initial(alloc, &d.name, 120)?;
+    Term::lam(alloc, name, family, body)
+}
+
+/// A type under the binder of a hypothesis: a product, or a let for one that has a definition.
+pub(crate) fn under_value(
+    alloc: Global,
+    name: &Text,
+    ty: Term,
+    value: Option<Term>,
+    body: Term,
+) -> Result<Term, TermStop>
+    ensures { Gives result (within_limits (value_under name.now ty value body)) }
+{
+    let name = name.share()?;
+    match value {
+        None => Term::prod(alloc, name, ty, body),
+        Some(value) => Term::let_in(alloc, name, ty, value, body),
+    }
 }
