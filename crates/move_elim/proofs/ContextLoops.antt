@@ -2,12 +2,18 @@
 use Rattle.std.specs.Prelude.{◌≡◌, ℕ, zero, suc, ◌+◌, ◌-◌, ◌==◌, ◌<◌, ◌≤◌, List, [], ◌∷◌, length, drop, Bool, true, false, ◌||◌, Option, Some, None, slice_get, if◌then◌else◌, refl}
 use Rattle.std.proofs.Common.{ap, sym, ◌∙◌, subst, arith}
 use Rattle.std.proofs.lemmas.Bool.Decides.{nat_tests}
+use Rattle.coq_syntax.specs.declared.moves.PatternCase.{PatternCase}
+use Rattle.coq_syntax.specs.Forms.{cases_of}
+use Rattle.core_term.specs.declared.sorts.Sort.{Sort}
 use Rattle.core_term.specs.Tree.{Tree}
 use Rattle.cic_rules.specs.declared.context.Hyp.{Hyp}
+use Rattle.cic_rules.specs.declared.env.Slot.{Slot}
 use Rattle.cic_rules.specs.Contexts.{renamed}
 use Rattle.cic_rules.specs.Eliminators.{same_name}
+use Rattle.cic_rules.specs.Environments.{entry_at}
 use Rattle.cic_rules.specs.Scopes.{AreBefore}
 use Rattle.move_elim.specs.declared.generalised.Marked.{Marked}
+use Rattle.move_elim.specs.Claims.{if_eliminator}
 use Rattle.move_elim.specs.Generalised.{next_marked, marked_from, hyp_mentions, is_mentioned}
 use Rattle.move_elim.specs.Subjects.{if_plain, named_from, stands_in}
 use Rattle.move_elim.proofs.Lists.{from_place, all_behind}
@@ -104,3 +110,17 @@ length_renamed (h ∷ hs) (suc i) n = ap suc (length_renamed hs i n)
 
 pub before_renamed : (ctx : List Hyp) (i : ℕ) (n : List ℕ) (places : List ℕ) → AreBefore (length ctx) places → AreBefore (length (renamed ctx i n)) places
 before_renamed ctx i n places h = subst (λ k. AreBefore k places) (sym (length_renamed ctx i n)) h
+
+-- the cases of a pattern
+pub count_cases : (cs : List PatternCase) → length (cases_of cs) ≡ length cs
+count_cases [] = refl
+count_cases (c ∷ cs) = ap suc (count_cases cs)
+
+-- where no global stands
+none_at : (env : List Slot) (at : ℕ) → length env ≤ at → entry_at env at ≡ None
+none_at [] at le = refl
+none_at (s ∷ ss) zero le = absurd (omega (arith, le))
+none_at (s ∷ ss) (suc at) le = none_at ss at (omega (arith, le))
+
+pub no_eliminator : (env : List Slot) (place : ℕ) (sort : Sort) (at : ℕ) → length env ≤ at → None ≡ if_eliminator place sort at (entry_at env at)
+no_eliminator env place sort at le = ap (if_eliminator place sort at) (sym (none_at env at le))

@@ -4,4 +4,5 @@ pub mod SiteLaws
 pub mod ArgumentLaws
 pub mod ContextLoops
 pub mod Binders
+pub mod Placements
 mod Samples

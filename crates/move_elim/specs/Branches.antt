@@ -26,10 +26,13 @@ abbrev pub without_names : List Ctor → List (List Given)
 without_names [] = []
 without_names (c ∷ cs) = [] ∷ without_names cs
 
+-- there is no constructor, and `[]` is written
+abbrev pub is_empty : List Ctor → List BoundName → List PatternCase → Bool
+is_empty ctors first others = length ctors == 0 && (length first == 0 && length others == 0)
+
 -- what is written has one branch more than it has bars; but where there is no constructor, `[]` has none
 abbrev pub written_branches : List Ctor → List BoundName → List PatternCase → List (List Given)
-written_branches ctors first others =
-    if length ctors == 0 && (length first == 0 && length others == 0) then [] else names_given first ∷ case_names others
+written_branches ctors first others = if is_empty ctors first others then [] else names_given first ∷ case_names others
 
 -- the names that are given in each branch
 abbrev pub branches_of : List Ctor → Option Pattern → List (List Given)

@@ -1,9 +1,10 @@
 -- The hypotheses that are generalised, and the goal under binders for them.
 use Rattle.std.specs.Prelude.{ℕ, zero, suc, ◌+◌, ◌-◌, nat_lt, List, [], ◌∷◌, ◌++◌, Bool, false, ◌&&◌, ◌||◌, not, Option, Some, None, if◌then◌else◌, slice_get}
 use Rattle.core_term.specs.Tree.{Tree, Var, Sorted, Constant, Prod, Lam, LetIn, App}
-use Rattle.core_term.specs.Places.{lift_of, occurrences}
+use Rattle.core_term.specs.Places.{occurrences}
 use Rattle.term_spine.specs.Globals.{has}
 use Rattle.cic_rules.specs.declared.context.Hyp.{Hyp}
+use Rattle.cic_rules.specs.Contexts.{type_of_variable, value_of_variable}
 use Rattle.move_elim.specs.declared.generalised.Marked.{Marked}
 use Rattle.move_elim.specs.declared.sites.Site.{Site}
 use Rattle.move_elim.specs.Sites.{placed, stand_for}
@@ -48,19 +49,20 @@ abbrev pub under_value : List ℕ → Tree → Option Tree → Tree → Tree
 under_value n a None t = Prod n a t
 under_value n a (Some v) t = LetIn n a v t
 
-abbrev pub placed_value : Site → ℕ → Option Tree → Option Tree
-placed_value s i None = None
-placed_value s i (Some t) = Some (placed s (lift_of t (suc i) 0))
+abbrev pub placed_if_any : Site → Option Tree → Option Tree
+placed_if_any s None = None
+placed_if_any s (Some t) = Some (placed s t)
 
--- .. of the one at a place
-abbrev pub under_hyp : Site → ℕ → Option Hyp → Tree → Tree
-under_hyp s i None t = t
-under_hyp s i (Some h) t = under_value h.name (placed s (lift_of h.ty (suc i) 0)) (placed_value s i h.value) t
+-- .. of a hypothesis that there is, with its type and its definition, which are put at a site
+abbrev pub under_hyp : Site → Option Hyp → Option Tree → Option Tree → Tree → Tree
+under_hyp s (Some h) (Some a) value t = under_value h.name (placed s a) (placed_if_any s value) t
+under_hyp s _ _ value t = t
 
 -- the goal at a site, under binders for the hypotheses at some places
 abbrev pub generalised : List Hyp → Site → List ℕ → Tree → Tree
 generalised ctx s [] goal = placed s goal
-generalised ctx s (i ∷ is) goal = under_hyp s i (slice_get ctx i) (generalised ctx (stand_for i s) is goal)
+generalised ctx s (i ∷ is) goal =
+    under_hyp s (slice_get ctx i) (type_of_variable ctx i) (value_of_variable ctx i) (generalised ctx (stand_for i s) is goal)
 
 abbrev pub value_mentions : Option Tree → ℕ → Bool
 value_mentions None i = false

@@ -1,7 +1,7 @@
 //! The branches of a pattern, and the names that they give.
 ghost use Rattle.std.specs.Prelude.{◌≡◌, ◌++◌, IfOk, OnOk};
 ghost use Rattle.coq_syntax.specs.Forms.{pattern_of, cases_of};
-ghost use Rattle.move_elim.specs.Branches.{names_given, case_names as names_of_cases, without_names as no_names, branches_of as the_branches, given_or as name_or, next_name as name_next, behind_next as names_behind, behind_argument as behind, names_left, is_there, have_too_many as too_many, clash as clashes, any_clash as some_clash, with_given as names_with};
+ghost use Rattle.move_elim.specs.Branches.{names_given, case_names as names_of_cases, without_names as no_names, branches_of as the_branches, is_empty as is_empty_pattern, given_or as name_or, next_name as name_next, behind_next as names_behind, behind_argument as behind, names_left, is_there, have_too_many as too_many, clash as clashes, any_clash as some_clash, with_given as names_with};
 
 use base_core::{List, NoMem, Text};
 use cic_rules::Ctor;
@@ -24,7 +24,7 @@ pub(crate) fn branches_of(
         None => without_names(alloc, ctors),
         Some(pattern) => {
             let mut branches = List::new(alloc);
-            if ctors.len() == 0 && pattern.first.len() == 0 && pattern.others.len() == 0 {
+            if is_empty(ctors, pattern) {
                 return Ok(branches);
             }
             let first = names_of(alloc, pattern.first.as_slice())?;
@@ -33,6 +33,14 @@ pub(crate) fn branches_of(
             Ok(branches)
         }
     }
+}
+
+/// Whether there is no constructor, and `[]` is written.
+#[tactic(auto, using(crate::proofs::ContextLoops::count_cases))]
+fn is_empty(ctors: &[Ctor], pattern: &Pattern) -> bool
+    ensures { result ≡ is_empty_pattern ctors.now pattern.now.first.items (cases_of pattern.now.others.items) }
+{
+    ctors.len() == 0 && pattern.first.len() == 0 && pattern.others.len() == 0
 }
 
 fn without_names(alloc: Global, ctors: &[Ctor]) -> Result<List<GivenNames>, NoMem>

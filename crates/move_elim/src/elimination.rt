@@ -1,12 +1,22 @@
 //! `destruct` and `induction`: the parts of their terms, and the context of their goals.
-ghost use Rattle.std.specs.Prelude.{◌≡◌, ◌++◌, ◌<◌, length, IfOk, OnOk};
+ghost use Rattle.std.specs.Prelude.{◌≡◌, ◌++◌, ◌&&◌, ◌<◌, length, IfOk, OnOk};
+ghost use Rattle.base_core.specs.Answers.{Gives};
+ghost use Rattle.cic_rules.specs.Eliminators.{is_in_prop as is_proposition};
 ghost use Rattle.cic_rules.specs.Scopes.{AreBefore};
-ghost use Rattle.move_elim.specs.Elimination.{hidden as the_hidden, names_without as the_names, plain_places, with_variables as applied_to_variables};
+ghost use Rattle.cic_rules.specs.Shapes.{recursive_in};
+ghost use Rattle.cic_rules.specs.Steps.{answer_of};
+ghost use Rattle.move_elim.specs.Generalised.{depends as depends_on};
+ghost use Rattle.move_elim.specs.Elimination.{hidden as the_hidden, names_without as the_names, plain_places, with_variables as applied_to_variables, tested as the_tests};
 
-use crate::subjects::is_plain;
-use base_core::{NoMem, NumberList, Stop, Text};
-use cic_rules::Context;
-use core_term::Term;
+use crate::branches::{GivenNames, any_clash, have_too_many};
+use crate::claims::{eliminator_into, is_in_prop};
+use crate::generalised::depends;
+use crate::refusals::refusal;
+use crate::subjects::{Subject, is_plain};
+use base_core::refusal_codes::{GOAL_DEPENDS, NAME_USED, NOT_PERMITTED, PATTERN_MISFIT};
+use base_core::{List, NoMem, NumberList, Stop, Text};
+use cic_rules::{Context, GlobalEnv, InductiveDecl};
+use core_term::{Sort, Term};
 use fresh_names::Names;
 use proof_state::{Goal, Sketch};
 use std::alloc::Global;
@@ -69,4 +79,49 @@ pub(crate) fn with_variables(
             with_variables(alloc, applied, later)
         }
     }
+}
+
+/// Whether the type is a proposition, and the goal or a generalised hypothesis mentions the proof.
+fn depends_on_proof(ctx: &Context, goal: &Term, d: &InductiveDecl, i: u32) -> bool
+    ensures { result ≡ (is_proposition d.now && depends_on ctx.now goal.now i) }
+{
+    is_in_prop(d) && depends(ctx, goal, i)
+}
+
+/// What is asked of the goal and of the names in the branches, in this order. It gives the eliminator.
+pub(crate) fn tested(
+    alloc: Global,
+    env: &GlobalEnv,
+    ctx: &Context,
+    goal: &Term,
+    d: &InductiveDecl,
+    x: &Subject,
+    flags: &[List<bool>],
+    induction: bool,
+    sort: Sort,
+    branches: &[GivenNames],
+) -> Result<u32, Stop>
+    requires variable { x.now.variable < length ctx.now }
+    requires flags { flags.now ≡ recursive_in x.now.place d.now.ctors }
+    ensures { let tests = the_tests induction env.now ctx.now goal.now d.now x.now sort branches.now in
+        Gives result (answer_of tests) }
+{
+    let count = d.ctors.as_slice().len();
+    let Some(eliminator) = eliminator_into(env, x.place, count, sort) else {
+        return Err(refusal(NOT_PERMITTED));
+    };
+    if depends_on_proof(ctx, goal, d, x.variable) {
+        return Err(refusal(GOAL_DEPENDS));
+    }
+    if branches.len() != count {
+        return Err(refusal(PATTERN_MISFIT));
+    }
+    if have_too_many(induction, flags, branches) {
+        return Err(refusal(PATTERN_MISFIT));
+    }
+    let names = names_without(alloc, ctx, x.variable)?;
+    if any_clash(alloc, &names, branches)? {
+        return Err(refusal(NAME_USED));
+    }
+    Ok(eliminator)
 }

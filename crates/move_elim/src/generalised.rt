@@ -1,12 +1,20 @@
 //! The hypotheses that are generalised, and the goal under binders for them.
-ghost use Rattle.std.specs.Prelude.{◌≡◌, ◌+◌, ◌^◌, ◌<◌, [], IfOk};
+ghost use Rattle.std.specs.Prelude.{◌≡◌, ◌+◌, ◌^◌, ◌<◌, ◌≤◌, length, slice_get, IfOk};
+ghost use Rattle.core_term.specs.Answers.{within_limits, Gives};
 ghost use Rattle.core_term.specs.Tree.{depth_of};
+ghost use Rattle.cic_rules.specs.Contexts.{type_of_variable, value_of_variable};
+ghost use Rattle.cic_rules.specs.Judges.{MayJudge, IsTermIn};
+ghost use Rattle.cic_rules.specs.Scopes.{AreBefore};
+ghost use Rattle.move_elim.specs.Scopes.{IsSite};
+ghost use Rattle.move_elim.specs.Sites.{placed as placed_term};
 ghost use Rattle.term_spine.specs.Globals.{has as has_place};
-ghost use Rattle.move_elim.specs.Generalised.{has_marked as is_marked_in, hyp_has_marked as has_marked_hyp, next_marked, marked_from, hyp_mentions as mentions_in, is_mentioned as mentioned_in, depends as depends_on};
+ghost use Rattle.move_elim.specs.Generalised.{has_marked as is_marked_in, hyp_has_marked as has_marked_hyp, next_marked, marked_from, hyp_mentions as mentions_in, is_mentioned as mentioned_in, depends as depends_on, placed_if_any, under_hyp as the_binder, generalised as the_generalised};
 
+use crate::claims::under_value;
+use crate::sites::{Site, placed};
 use base_core::{NoMem, NumberList};
-use cic_rules::{Context, Hyp};
-use core_term::{Node, Term};
+use cic_rules::{Context, GlobalEnv, Hyp};
+use core_term::{Node, Term, TermStop};
 use shared_map::SharedList;
 use std::alloc::Global;
 
@@ -162,4 +170,117 @@ pub(crate) fn depends(ctx: &Context, goal: &Term, i: u32) -> bool
     ensures { result ≡ depends_on ctx.now goal.now i }
 {
     0 < goal.occurrences(u64::from(i)) || is_mentioned(ctx, i)
+}
+
+/// The definition of a hypothesis at a site.
+#[tactic(auto, using(crate::proofs::Placements::value_placed))]
+fn placed_value(
+    alloc: Global,
+    env: &GlobalEnv,
+    ctx: &Context,
+    site: &Site,
+    i: u32,
+) -> Result<Option<Term>, NoMem>
+    requires judged { MayJudge env.now ctx.now }
+    requires site { IsSite site.now }
+    requires levels { length site.now.levels ≡ length ctx.now }
+    ensures { IfOk result (λ v. v ≡ placed_if_any site.now (value_of_variable ctx.now i)) }
+{
+    match ctx.value_of(alloc, i)? {
+        None => Ok(None),
+        Some(value) => {
+            let value = placed(alloc, &value, site, env.len())?;
+            Ok(Some(value))
+        }
+    }
+}
+
+/// A term that was made passes no limit.
+#[tactic(auto, using(crate::proofs::SiteLaws::term_is_within))]
+fn within(t: Term) -> Result<Term, TermStop>
+    ensures { Gives result (within_limits t) }
+{
+    let _depth = t.depth();
+    Ok(t)
+}
+
+/// A type under the binder of the hypothesis at a place.
+#[tactic(auto, using(crate::proofs::Placements::type_placed))]
+fn under_hyp(
+    alloc: Global,
+    env: &GlobalEnv,
+    ctx: &Context,
+    site: &Site,
+    i: u32,
+    body: Term,
+) -> Result<Term, TermStop>
+    requires judged { MayJudge env.now ctx.now }
+    requires site { IsSite site.now }
+    requires levels { length site.now.levels ≡ length ctx.now }
+    ensures { let binder = the_binder site.now (slice_get ctx.now i) (type_of_variable ctx.now i) in
+        Gives result (within_limits (binder (value_of_variable ctx.now i) body)) }
+{
+    match ctx.get(i) {
+        None => within(body),
+        Some(hyp) => match ctx.type_of(alloc, i)? {
+            None => within(body),
+            Some(ty) => {
+                let ty = placed(alloc, &ty, site, env.len())?;
+                let value = placed_value(alloc, env, ctx, site, i)?;
+                under_value(alloc, &hyp.name, ty, value, body)
+            }
+        },
+    }
+}
+
+/// The goal where no more hypotheses are generalised.
+#[tactic(auto, using(crate::proofs::Placements::goal_placed))]
+fn placed_goal(
+    alloc: Global,
+    env: &GlobalEnv,
+    ctx: &Context,
+    site: &Site,
+    goal: &Term,
+) -> Result<Term, NoMem>
+    requires goal { IsTermIn env.now ctx.now goal.now }
+    requires site { IsSite site.now }
+    requires levels { length site.now.levels ≡ length ctx.now }
+    ensures { IfOk result (λ t. t ≡ placed_term site.now goal.now) }
+{
+    let globals = env.len();
+    let placed = placed(alloc, goal, site, globals)?;
+    Ok(placed)
+}
+
+/// The goal at a site, under binders for the hypotheses at some places.
+#[tactic(auto, using(crate::proofs::Placements::under_stop, crate::proofs::SiteLaws::is_standing, crate::proofs::Placements::levels_standing))]
+pub(crate) fn generalised(
+    alloc: Global,
+    env: &GlobalEnv,
+    ctx: &Context,
+    site: &Site,
+    places: &[u32],
+    goal: &Term,
+) -> Result<Term, TermStop>
+    requires judged { MayJudge env.now ctx.now }
+    requires goal { IsTermIn env.now ctx.now goal.now }
+    requires site { IsSite site.now }
+    requires levels { length site.now.levels ≡ length ctx.now }
+    requires places { AreBefore (length ctx.now) places.now }
+    requires room { site.now.depth + length places.now ≤ 2 ^ 31 + 3000 }
+    ensures { Gives result (within_limits (the_generalised ctx.now site.now places.now goal.now)) }
+{
+    match places.split_first() {
+        None => {
+            let goal = placed_goal(alloc, env, ctx, site, goal)?;
+            within(goal)
+        }
+        Some((i, later)) => {
+            let inner = site.stand_for(alloc, *i)?;
+            match generalised(alloc, env, ctx, &inner, later, goal) {
+                Ok(body) => under_hyp(alloc, env, ctx, site, *i, body),
+                Err(stop) => Err(stop),
+            }
+        }
+    }
 }
