@@ -5,6 +5,7 @@ ghost use Rattle.cic_rules.specs.Eliminators.{is_in_prop as is_proposition};
 ghost use Rattle.cic_rules.specs.Scopes.{AreBefore};
 ghost use Rattle.cic_rules.specs.Shapes.{recursive_in};
 ghost use Rattle.cic_rules.specs.Steps.{answer_of};
+ghost use Rattle.move_elim.specs.Branches.{any_clash as some_clash};
 ghost use Rattle.move_elim.specs.Generalised.{depends as depends_on};
 ghost use Rattle.move_elim.specs.Elimination.{hidden as the_hidden, names_without as the_names, plain_places, with_variables as applied_to_variables, tested as the_tests};
 
@@ -88,6 +89,21 @@ fn depends_on_proof(ctx: &Context, goal: &Term, d: &InductiveDecl, i: u32) -> bo
     is_in_prop(d) && depends(ctx, goal, i)
 }
 
+/// Whether a name of a branch is that of a hypothesis that stays or comes back, or is given twice.
+fn is_name_used(
+    alloc: Global,
+    ctx: &Context,
+    i: u32,
+    branches: &[GivenNames],
+) -> Result<bool, NoMem>
+    requires { i < length ctx.now }
+    ensures { IfOk result (λ is. is ≡ some_clash (the_names ctx.now i) branches.now) }
+{
+    let names = names_without(alloc, ctx, i)?;
+    let is_used = any_clash(alloc, &names, branches)?;
+    Ok(is_used)
+}
+
 /// What is asked of the goal and of the names in the branches, in this order. It gives the eliminator.
 pub(crate) fn tested(
     alloc: Global,
@@ -119,8 +135,7 @@ pub(crate) fn tested(
     if have_too_many(induction, flags, branches) {
         return Err(refusal(PATTERN_MISFIT));
     }
-    let names = names_without(alloc, ctx, x.variable)?;
-    if any_clash(alloc, &names, branches)? {
+    if is_name_used(alloc, ctx, x.variable, branches)? {
         return Err(refusal(NAME_USED));
     }
     Ok(eliminator)

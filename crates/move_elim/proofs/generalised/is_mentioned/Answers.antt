@@ -1,4 +1,4 @@
-use Rattle.std.proofs.Common.{rules, ◌∙◌, sym, arith}
+use Rattle.std.proofs.Common.{◌∙◌, sym, arith}
 use Rattle.move_elim.proofs.ContextLoops.{mentioned_here, mentioned_on, mentioned_end, mentioned_none}
 use Rattle.move_elim.proofs.generalised.is_mentioned.Goals as goal
 
