@@ -1,0 +1,12 @@
+pub mod Steps
+pub mod Sites
+pub mod Subjects
+pub mod Generalised
+pub mod Claims
+pub mod Branches
+pub mod Cases
+pub mod Elimination
+pub mod Scopes
+pub mod Moves
+pub mod Calls
+pub mod Laws
