@@ -1,6 +1,7 @@
 -- What one run with the units that are handed in tells of a sentence.
 use Rattle.std.proofs.Common.{◌≡◌, ℕ, ◌+◌, ◌-◌, ◌<◌, ◌≤◌, min, List, true, false, Result, Ok, Err, refl, sym, ap, subst, ◌∙◌, arith}
 use Rattle.std.proofs.lemmas.Bool.Decides.{nat_tests}
+use Rattle.base_core.specs.Answers.{Gives}
 use Rattle.base_core.specs.declared.kind.Kind.{Kind}
 use Rattle.base_core.specs.declared.limits.TheConstants.{UNIT_LIMIT}
 use Rattle.base_core.specs.declared.refusals.Stop.{Stop}
@@ -11,14 +12,16 @@ use Rattle.cic_rules.specs.Fuel.{FuelState, NESTING_LIMIT, full}
 use Rattle.cic_rules.specs.Judges.{Meets}
 use Rattle.cic_rules.specs.Runs.{Ran}
 use Rattle.vernac_exec.specs.declared.deed.Deed.{Deed}
-use Rattle.vernac_exec.specs.declared.state.ProverState.{ProverState}
+use Rattle.vernac_exec.specs.declared.reading.Reading.{Reading}
+use Rattle.vernac_exec.specs.declared.state.State.{State}
+use Rattle.vernac_exec.specs.Readings.{reading}
 use Rattle.vernac_exec.specs.Sentences.{sentence_run}
 use Rattle.vernac_exec.specs.States.{behind}
 use Rattle.vernac_exec.specs.Diagnostics.{told}
 use Rattle.vernac_exec.specs.Exec.{whole_run, cost, after, diagnosed}
 use Rattle.vernac_exec.specs.Laws.{grant, granted_run, HadEnough, IsDecided}
 use Rattle.vernac_exec.specs.Answers.{is_want, is_starved}
-use Rattle.vernac_exec.specs.Calls.{sentence_with}
+use Rattle.vernac_exec.specs.Calls.{run_read_with, sentence_with}
 use Rattle.vernac_exec.proofs.UnitLaws.{one_run_decides}
 
 answered : (answer : Result Deed Stop) (l : ℕ) (ran : Ran Deed) → is_want answer ≡ false → Meets answer l ran → (answer ≡ ran.answer) × (l ≡ ran.left)
@@ -50,42 +53,71 @@ none_off : (n : ℕ) → n - 0 ≡ n
 none_off n = omega arith
 
 -- the run that was made
-granted_met : (m : ProverState) (kind : Kind) (text : List ℕ) (units g l : ℕ) (f : FuelState) (answer : Result Deed Stop) → f ≡ full g → g ≡ grant units →
-    Meets answer l (sentence_with m.env kind text f) → Meets answer l (granted_run m (sentence kind text) units)
+granted_met : (m : State) (kind : Kind) (text : List ℕ) (units g l : ℕ) (f : FuelState) (answer : Result Deed Stop) → f ≡ full g → g ≡ grant units →
+    Meets answer l (sentence_with m.env m.opened kind text f) → Meets answer l (granted_run m (sentence kind text) units)
 granted_met m kind text units g l f answer fresh given met =
-    let P : FuelState → Type 0 = λ x. Meets answer l (sentence_with m.env kind text x) in
+    let P : FuelState → Type 0 = λ x. Meets answer l (sentence_with m.env m.opened kind text x) in
     let Q : ℕ → Type 0 = λ n. Meets answer l (sentence_run m.env NESTING_LIMIT kind text n) in
     subst Q (none_off (grant units)) (subst P (fresh ∙ ap full given) met)
 
+-- a sentence that was read, unless memory ran out
+
+not_read : (answer : Result Deed Stop) (l : ℕ) (ran : Ran Deed) → ran.answer ≡ Err NoMem → is_want answer ≡ false → Meets answer l ran → ⊥
+not_read (Ok x) l ran none served met = let e : Ok x ≡ Err NoMem = met.0 ∙ none in cc
+not_read (Err (Refused r)) l ran none served met = let e : Err (Refused r) ≡ Err NoMem = met.0 ∙ none in cc
+not_read (Err (Out limit)) l ran none served met = let e : Err (Out limit) ≡ Err NoMem = met.0 ∙ none in cc
+not_read (Err NoMem) l ran none served met = cc
+
+record IsReadSo (m : State) (kind : Kind) (text : List ℕ) (read : Result Reading Stop) (l : ℕ) (f : FuelState) (answer : Result Deed Stop) : Type 0 where
+  reads : read ≡ reading kind text
+  met : Meets answer l (sentence_with m.env m.opened kind text f)
+
+read_so : (m : State) (kind : Kind) (text : List ℕ) (read : Result Reading Stop) (l : ℕ) (f : FuelState) (answer : Result Deed Stop) →
+    read ≡ reading kind text → Meets answer l (run_read_with m.env m.opened read f) → IsReadSo m kind text read l f answer
+unfolding sentence_run
+read_so m kind text read l f answer same met =
+    record { reads = same; met = subst (λ (x : Result Reading Stop). Meets answer l (run_read_with m.env m.opened x f)) same met }
+
+is_read_so : (m : State) (kind : Kind) (text : List ℕ) (read : Result Reading Stop) (l : ℕ) (f : FuelState) (answer : Result Deed Stop) →
+    Gives read (reading kind text) → is_want answer ≡ false → Meets answer l (run_read_with m.env m.opened read f) →
+    IsReadSo m kind text read l f answer
+is_read_so m kind text (Ok r) l f answer given served met = read_so m kind text (Ok r) l f answer given met
+is_read_so m kind text (Err (Refused r)) l f answer given served met = read_so m kind text (Err (Refused r)) l f answer given met
+is_read_so m kind text (Err (Out limit)) l f answer given served met = read_so m kind text (Err (Out limit)) l f answer given met
+is_read_so m kind text (Err NoMem) l f answer given served met =
+    absurd (not_read answer l (run_read_with m.env m.opened (Err NoMem) f) refl served met)
+
 -- the sentence was interrupted
-pub exec_short : (m : ProverState) (kind : Kind) (text : List ℕ) (units g l : ℕ) (f : FuelState) (answer : Result Deed Stop) → 1 ≤ units → f ≡ full g →
-    g ≡ grant units → is_want answer ≡ false → Meets answer l (sentence_with m.env kind text f) → is_starved answer g ≡ true →
-    units < cost m (sentence kind text)
-exec_short m kind text units g l f answer one fresh given served met starved =
-    let same = answered answer l (granted_run m (sentence kind text) units) served (granted_met m kind text units g l f answer fresh given met) in
+pub exec_short : (m : State) (kind : Kind) (text : List ℕ) (read : Result Reading Stop) (units g l : ℕ) (f : FuelState) (answer : Result Deed Stop) →
+    1 ≤ units → f ≡ full g → g ≡ grant units → Gives read (reading kind text) → is_want answer ≡ false →
+    Meets answer l (run_read_with m.env m.opened read f) → is_starved answer g ≡ true → units < cost m (sentence kind text)
+exec_short m kind text read units g l f answer one fresh given reads served met starved =
+    let so = is_read_so m kind text read l f answer reads served met in
+    let same = answered answer l (granted_run m (sentence kind text) units) served (granted_met m kind text units g l f answer fresh given so.met) in
     let ended = starved_is answer g starved in
     (one_run_decides m (sentence kind text) units one).short (sym same.0 ∙ ended.0) (subst (λ n. n < UNIT_LIMIT) given ended.1)
 
 -- it was done
-pub record IsDone (m : ProverState) (s : Sentence) (units left : ℕ) (answer : Result Deed Stop) : Type 0 where
+pub record IsDone (m : State) (s : Sentence) (read : Result Reading Stop) (units left : ℕ) (answer : Result Deed Stop) : Type 0 where
   pub fits : cost m s ≤ units
-  pub state : behind m answer ≡ after m s
+  pub state : behind m read answer ≡ after m s
   pub diags : told s.text answer ≡ diagnosed m s
   pub spent : 1 + (grant units - left) ≡ cost m s
 
-pub exec_done : (m : ProverState) (kind : Kind) (text : List ℕ) (units g l : ℕ) (f : FuelState) (answer : Result Deed Stop) → 1 ≤ units → f ≡ full g →
-    g ≡ grant units → is_want answer ≡ false → Meets answer l (sentence_with m.env kind text f) → is_starved answer g ≡ false →
-    IsDone m (sentence kind text) units l answer
-exec_done m kind text units g l f answer one fresh given served met fed =
+pub exec_done : (m : State) (kind : Kind) (text : List ℕ) (read : Result Reading Stop) (units g l : ℕ) (f : FuelState) (answer : Result Deed Stop) →
+    1 ≤ units → f ≡ full g → g ≡ grant units → Gives read (reading kind text) → is_want answer ≡ false →
+    Meets answer l (run_read_with m.env m.opened read f) → is_starved answer g ≡ false → IsDone m (sentence kind text) read units l answer
+exec_done m kind text read units g l f answer one fresh given reads served met fed =
     let s = sentence kind text in
-    let same = answered answer l (granted_run m s units) served (granted_met m kind text units g l f answer fresh given met) in
+    let so = is_read_so m kind text read l f answer reads served met in
+    let same = answered answer l (granted_run m s units) served (granted_met m kind text units g l f answer fresh given so.met) in
     let enough : HadEnough m s units =
     λ e. fed_is answer (grant units) (subst (λ n. is_starved answer n ≡ false) given fed) (granted_most units UNIT_LIMIT) (same.0 ∙ e) in
     let decided : IsDecided m s units = one_run_decides m s units one in
     let whole : answer ≡ (whole_run m s).answer = same.0 ∙ decided.answer enough in
     record {
       fits = decided.fits enough;
-      state = ap (behind m) whole;
+      state = ap (λ r. behind m r answer) so.reads ∙ ap (behind m (reading kind text)) whole;
       diags = ap (told s.text) whole;
       spent = ap (λ n. 1 + (grant units - n)) same.1 ∙ decided.spent enough;
     }

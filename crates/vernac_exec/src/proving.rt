@@ -59,7 +59,7 @@ fn context_in_focus(env: &GlobalEnv, open: &OpenProof) -> Result<Context, NoMem>
 }
 
 /// Gives a goal up, where it is unsolved.
-#[tactic(auto, using(crate::proofs::ProvingLaws::may_admit, crate::proofs::ProvingLaws::given_up_in))]
+#[tactic(auto, using(crate::proofs::ProvingLaws::may_admit))]
 fn abandon(alloc: Global, env: &GlobalEnv, proof: &ProofState, n: u32) -> Result<ProofState, Stop>
     requires { HaveGoalsIn env.now proof.now.goals }
     ensures proof { Gives result (Ok (abandoned_if (unsolved_at proof.now.goals n) n proof.now)) }
@@ -137,7 +137,7 @@ fn told_of_filling(alloc: Global, by: &Filling) -> Result<CodeList, NoMem>
 }
 
 /// A proof move at a goal in focus.
-#[tactic(auto, using(crate::proofs::ProvingLaws::may_fill, crate::proofs::ProvingLaws::step_in, crate::proofs::ProvingLaws::has_first))]
+#[tactic(auto, using(crate::proofs::ProvingLaws::may_fill, crate::proofs::ProvingLaws::has_first))]
 fn prove_at<J: Judge>(
     judge: &J,
     alloc: Global,
@@ -168,7 +168,6 @@ fn prove_at<J: Judge>(
 }
 
 /// A proof move.
-#[tactic(auto, using(crate::proofs::ProvingLaws::goal_in))]
 pub(crate) fn prove<J: Judge>(
     judge: &J,
     alloc: Global,
