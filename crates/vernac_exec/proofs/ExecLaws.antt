@@ -57,7 +57,7 @@ granted_met : (m : State) (kind : Kind) (text : List ℕ) (units g l : ℕ) (f :
     Meets answer l (sentence_with m.env m.opened kind text f) → Meets answer l (granted_run m (sentence kind text) units)
 granted_met m kind text units g l f answer fresh given met =
     let P : FuelState → Type 0 = λ x. Meets answer l (sentence_with m.env m.opened kind text x) in
-    let Q : ℕ → Type 0 = λ n. Meets answer l (sentence_run m.env NESTING_LIMIT kind text n) in
+    let Q : ℕ → Type 0 = λ n. Meets answer l (sentence_run m.env NESTING_LIMIT m.opened kind text n) in
     subst Q (none_off (grant units)) (subst P (fresh ∙ ap full given) met)
 
 -- a sentence that was read, unless memory ran out
@@ -88,14 +88,22 @@ is_read_so m kind text (Err NoMem) l f answer given served met =
     absurd (not_read answer l (run_read_with m.env m.opened (Err NoMem) f) refl served met)
 
 -- the sentence was interrupted
-pub exec_short : (m : State) (kind : Kind) (text : List ℕ) (read : Result Reading Stop) (units g l : ℕ) (f : FuelState) (answer : Result Deed Stop) →
+exec_short_so : (m : State) (kind : Kind) (text : List ℕ) (read : Result Reading Stop) (units g l : ℕ) (f : FuelState) (answer : Result Deed Stop) →
     1 ≤ units → f ≡ full g → g ≡ grant units → Gives read (reading kind text) → is_want answer ≡ false →
     Meets answer l (run_read_with m.env m.opened read f) → is_starved answer g ≡ true → units < cost m (sentence kind text)
-exec_short m kind text read units g l f answer one fresh given reads served met starved =
+exec_short_so m kind text read units g l f answer one fresh given reads served met starved =
     let so = is_read_so m kind text read l f answer reads served met in
     let same = answered answer l (granted_run m (sentence kind text) units) served (granted_met m kind text units g l f answer fresh given so.met) in
     let ended = starved_is answer g starved in
     (one_run_decides m (sentence kind text) units one).short (sym same.0 ∙ ended.0) (subst (λ n. n < UNIT_LIMIT) given ended.1)
+
+-- .. in a state that is held
+pub exec_short : (m held : State) (kind : Kind) (text : List ℕ) (read : Result Reading Stop) (units g l : ℕ) (f : FuelState) (answer : Result Deed Stop) →
+    held ≡ m → 1 ≤ units → f ≡ full g → g ≡ grant units → Gives read (reading kind text) → is_want answer ≡ false →
+    Meets answer l (run_read_with held.env held.opened read f) → is_starved answer g ≡ true → units < cost m (sentence kind text)
+exec_short m held kind text read units g l f answer same one fresh given reads served met starved =
+    exec_short_so m kind text read units g l f answer one fresh given reads served
+    (subst (λ (x : State). Meets answer l (run_read_with x.env x.opened read f)) same met) starved
 
 -- it was done
 pub record IsDone (m : State) (s : Sentence) (read : Result Reading Stop) (units left : ℕ) (answer : Result Deed Stop) : Type 0 where
@@ -104,10 +112,10 @@ pub record IsDone (m : State) (s : Sentence) (read : Result Reading Stop) (units
   pub diags : told s.text answer ≡ diagnosed m s
   pub spent : 1 + (grant units - left) ≡ cost m s
 
-pub exec_done : (m : State) (kind : Kind) (text : List ℕ) (read : Result Reading Stop) (units g l : ℕ) (f : FuelState) (answer : Result Deed Stop) →
+exec_done_so : (m : State) (kind : Kind) (text : List ℕ) (read : Result Reading Stop) (units g l : ℕ) (f : FuelState) (answer : Result Deed Stop) →
     1 ≤ units → f ≡ full g → g ≡ grant units → Gives read (reading kind text) → is_want answer ≡ false →
     Meets answer l (run_read_with m.env m.opened read f) → is_starved answer g ≡ false → IsDone m (sentence kind text) read units l answer
-exec_done m kind text read units g l f answer one fresh given reads served met fed =
+exec_done_so m kind text read units g l f answer one fresh given reads served met fed =
     let s = sentence kind text in
     let so = is_read_so m kind text read l f answer reads served met in
     let same = answered answer l (granted_run m s units) served (granted_met m kind text units g l f answer fresh given so.met) in
@@ -121,6 +129,14 @@ exec_done m kind text read units g l f answer one fresh given reads served met f
       diags = ap (told s.text) whole;
       spent = ap (λ n. 1 + (grant units - n)) same.1 ∙ decided.spent enough;
     }
+
+-- .. in a state that is held
+pub exec_done : (m held : State) (kind : Kind) (text : List ℕ) (read : Result Reading Stop) (units g l : ℕ) (f : FuelState) (answer : Result Deed Stop) →
+    held ≡ m → 1 ≤ units → f ≡ full g → g ≡ grant units → Gives read (reading kind text) → is_want answer ≡ false →
+    Meets answer l (run_read_with held.env held.opened read f) → is_starved answer g ≡ false → IsDone m (sentence kind text) read units l answer
+exec_done m held kind text read units g l f answer same one fresh given reads served met fed =
+    exec_done_so m kind text read units g l f answer one fresh given reads served
+    (subst (λ (x : State). Meets answer l (run_read_with x.env x.opened read f)) same met) fed
 
 -- what was spent, and the sentence's own unit
 pub spent_is : (limit spent given total : ℕ) → limit ≡ given → spent ≤ limit → 1 + (given - (limit - spent)) ≡ total → spent + 1 ≡ total

@@ -6,6 +6,7 @@ ghost use Rattle.vernac_exec.specs.Commands.{named_hyp, named_hyps};
 
 use base_core::{NoMem, Text};
 use cic_rules::{Context, GlobalEnv, Hyp};
+use core_term::Term;
 use fresh_names::{Names, automatic};
 use std::alloc::Global;
 
@@ -26,18 +27,25 @@ pub(crate) fn extend(
     }
 }
 
-/// The name of a hypothesis behind these names: its own, or the automatic one.
-fn hyp_name(alloc: Global, env: &GlobalEnv, names: &Names, hyp: &Hyp) -> Result<Text, NoMem>
-    ensures { IfOk result (λ own. own ≡ argument_name env.now names.now hyp.now.name hyp.now.ty) }
+/// The name of a hypothesis of this type behind these names: its own, or the automatic one.
+fn argument_name(
+    alloc: Global,
+    env: &GlobalEnv,
+    names: &Names,
+    name: &Text,
+    ty: &Term,
+) -> Result<Text, NoMem>
+    ensures { IfOk result (λ own. own ≡ argument_name env.now names.now name.now ty.now) }
 {
-    if hyp.name.as_str() != "_" {
-        return hyp.name.share();
+    if name.as_str() != "_" {
+        return name.share();
     }
-    automatic(alloc, env, names, &hyp.name, &hyp.ty)
+    let own = automatic(alloc, env, names, name, ty)?;
+    Ok(own)
 }
 
 /// The hypotheses that a proof begins with: each `_` has its automatic name.
-#[tactic(auto, using(crate::proofs::HypLists::one_hyp_more, crate::proofs::HypLists::named_stands, crate::proofs::HypLists::named_plain))]
+#[tactic(auto, using(crate::proofs::HypLists::named_plain))]
 pub(crate) fn named_hyps(alloc: Global, env: &GlobalEnv, inner: &Context) -> Result<Context, NoMem>
     requires { AreParams inner.now }
     ensures hyps { IfOk result (λ hyps. hyps ≡ named_hyps env.now inner.now) }
@@ -51,7 +59,7 @@ pub(crate) fn named_hyps(alloc: Global, env: &GlobalEnv, inner: &Context) -> Res
         let Some(hyp) = inner.get(at) else {
             unreachable!()
         };
-        let name = hyp_name(alloc, env, &names, hyp)?;
+        let name = argument_name(alloc, env, &names, &hyp.name, &hyp.ty)?;
         names = names.with_shown(alloc, &name)?;
         hyps = extend(alloc, &hyps, name, hyp)?;
     }

@@ -41,7 +41,6 @@ fn proof_view(alloc: Global, env: &GlobalEnv, open: &OpenProof) -> Result<GoalsV
 }
 
 /// The goals that wait in each level, the innermost first.
-#[tactic(auto, using(crate::proofs::ShownGoals::level_shown))]
 fn level_views(
     alloc: Global,
     env: &GlobalEnv,
@@ -58,7 +57,6 @@ fn level_views(
 }
 
 /// The goals of these numbers.
-#[tactic(auto, using(crate::proofs::ShownGoals::goal_shown))]
 fn stack_views(
     alloc: Global,
     env: &GlobalEnv,
@@ -97,7 +95,6 @@ fn add_goal(
 }
 
 /// The goals of these numbers, in a list that is shared.
-#[tactic(auto, using(crate::proofs::ShownGoals::goal_shown))]
 fn listed_views(
     alloc: Global,
     env: &GlobalEnv,
@@ -132,7 +129,6 @@ fn goal_view(alloc: Global, env: &GlobalEnv, goal: &Goal) -> Result<GoalView, No
 }
 
 /// Hypotheses, the oldest first. Each is printed in the context of those before it.
-#[tactic(auto, using(crate::proofs::HypLists::one_hyp_shown, crate::proofs::HypLists::shown_stands))]
 fn hyp_views(alloc: Global, env: &GlobalEnv, ctx: &Context) -> Result<HypViewList, NoMem>
     ensures { IfOk result (λ views. views ≡ hyp_views env.now ctx.now) }
 {
