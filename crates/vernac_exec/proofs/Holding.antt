@@ -1,5 +1,5 @@
 -- The goals of each state that is held are in scope.
-use Rattle.std.specs.Prelude.{◌≡◌, List, Bool, true, false, Option, Some, None, Result, Ok, Err, if◌then◌else◌}
+use Rattle.std.specs.Prelude.{List, Bool, true, false, Option, Some, None, Result, if◌then◌else◌}
 use Rattle.base_core.specs.declared.refusals.Stop.{Stop}
 use Rattle.proof_state.specs.Proof.{Proof}
 use Rattle.bullet_focus.specs.FocusState.{FocusState}

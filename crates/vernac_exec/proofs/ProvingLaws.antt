@@ -1,6 +1,6 @@
 -- What the calls that run a sentence in a proof need of the definitions.
 use Rattle.std.specs.Prelude.{◌≡◌, ℕ, zero, suc, ◌+◌, ◌<◌, ◌^◌, ◌==◌, nat_lt, List, [], ◌∷◌, length, drop, Bool, true, false, Option, Some, None, Ok, All, slice_get, if◌then◌else◌}
-use Rattle.std.proofs.Common.{refl, sym, subst, arith}
+use Rattle.std.proofs.Common.{refl, sym, arith}
 use Rattle.std.proofs.lemmas.Bool.Decides.{nat_tests}
 use Rattle.std.proofs.lemmas.List.Elements.{All-nil, All-cons, All-append}
 use Rattle.base_core.specs.declared.refusal_codes.TheConstants as code
@@ -9,7 +9,7 @@ use Rattle.bullet_focus.specs.declared.levels.Opener.{Opener}
 use Rattle.bullet_focus.specs.declared.levels.Opener.TheVariants.{Bullet, Brace}
 use Rattle.bullet_focus.specs.FocusState.{FocusState}
 use Rattle.bullet_focus.specs.Levels.{place_of, waiting_at}
-use Rattle.bullet_focus.specs.Steps.{kept, level_entered, level_begun, given_up, unsolved, none_left, resumed, closed, bullet_at, after_bullet, after_brace_open, brace_at, after_brace_close}
+use Rattle.bullet_focus.specs.Steps.{kept, level_entered, level_begun, given_up, unsolved, none_left, bullet_at, after_bullet, after_brace_open, brace_at, after_brace_close}
 use Rattle.cic_rules.specs.declared.context.Hyp.{Hyp}
 use Rattle.cic_rules.specs.declared.env.Slot.{Slot}
 use Rattle.cic_rules.specs.Judges.{MayJudge}
