@@ -1,7 +1,10 @@
 pub mod Floats
 pub mod Few
 pub mod Lists
+pub mod Taken
+pub mod Carrying
 pub mod Units
+pub mod Spending
 pub mod Idles
 pub mod Kept
 pub mod Made
