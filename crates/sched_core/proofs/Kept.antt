@@ -1,11 +1,11 @@
 -- The texts of all documents stay within the limit, and their numbers stand in the table.
-use Rattle.std.proofs.Common.{◌≡◌, ℕ, ℤ, ◌+◌, ◌<◌, ◌≤◌, suc, Result, Ok, Err, OnOk, OnErr, List, [], ◌∷◌, ◌++◌, length, get_or, take, drop, remove, slice_set, arith, sym, subst, ap, ◌∙◌, All}
-use Rattle.std.proofs.lemmas.List.Elements.{All-append, All-push, All-set, All-take, All-drop, All-get_or}
+use Rattle.std.proofs.Common.{◌≡◌, ℕ, ℤ, ◌+◌, ◌<◌, ◌≤◌, suc, Result, Ok, Err, OnOk, OnErr, List, [], ◌∷◌, ◌++◌, length, get_or, take, drop, remove, slice_set, arith, refl, sym, subst, ap, ◌∙◌, All}
+use Rattle.std.proofs.lemmas.List.Elements.{All-nil, All-append, All-push, All-set, All-take, All-drop, All-get_or}
 use Rattle.base_core.specs.declared.limits.TheConstants.{TEXT_LIMIT}
 use Rattle.utf16_doc.specs.declared.encoding.Encoding.{Encoding}
 use Rattle.prover_iface.specs.Sentences.{Sentence}
 use Rattle.prover_iface.specs.Meanings.{Meanings}
-use Rattle.memo_table.specs.Table.{Table}
+use Rattle.memo_table.specs.Table.{Table, table}
 use Rattle.doc_check.specs.Document.{Doc, changed}
 use Rattle.doc_check.specs.Stands.{Follows, Stands}
 use Rattle.doc_check.proofs.Advancing.{changed_follows}
@@ -53,20 +53,22 @@ module _ {S M : Type 0} (meaning : S → M) (means : Meanings M) where
     follows = subst (InTable h.prefix t.given) (sym is) (All-get_or (InTable h.prefix t.given) documents place (document_in [] 0) within h.follow);
   }
 
-  -- a new version
-  pub holds_renewed : {A E : Type 0} (t : Table S) (documents new : List Document) (place : ℕ) (version : ℤ) (encoding : Encoding) (text : List ℕ) (old document : Document) (result : Result A E) → Holds meaning means t documents → place < length documents → old ≡ document_in documents place → OnOk result (document ≡ restarted version encoding text old) → OnErr result (document ≡ old) → length document.check.text ≤ TEXT_LIMIT → new ≡ slice_set documents place document → Holds meaning means t new
+  -- a new version, or none
+  pub holds_renewed : {A E : Type 0} (t : Table S) (documents new : List Document) (place : ℕ) (version : ℤ) (encoding : Encoding) (text : List ℕ) (old document : Document) (result : Result A E) → Holds meaning means t documents → place < length documents → old ≡ document_in documents place → OnOk result (document ≡ restarted version encoding text old) → OnErr result (document ≡ old) → length text ≤ TEXT_LIMIT → new ≡ slice_set documents place document → Holds meaning means t new
   holds_renewed t documents new place version encoding text old document result h within old_is done undone short e =
       let before : Follows h.prefix t.given old.check = subst (InTable h.prefix t.given) (sym old_is) (All-get_or (InTable h.prefix t.given) documents place (document_in [] 0) within h.follow) in
+      let small : length old.check.text ≤ TEXT_LIMIT = subst IsShort (sym old_is) (All-get_or IsShort documents place (document_in [] 0) within h.short) in
+      let now = by result done undone before small in
       record {
-        short = subst AreShort (sym e) (All-set IsShort documents place document short h.short);
+        short = subst AreShort (sym e) (All-set IsShort documents place document now.1 h.short);
         prefix = h.prefix;
         fits = h.fits;
-        follow = subst (All (InTable h.prefix t.given)) (sym e) (All-set (InTable h.prefix t.given) documents place document (by result done undone before) h.follow);
+        follow = subst (All (InTable h.prefix t.given)) (sym e) (All-set (InTable h.prefix t.given) documents place document now.0 h.follow);
       }
     where
-      by : {A E : Type 0} (result : Result A E) → OnOk result (document ≡ restarted version encoding text old) → OnErr result (document ≡ old) → Follows h.prefix t.given old.check → Follows h.prefix t.given document.check
-      by (Ok a) is none before = subst (InTable h.prefix t.given) (sym is) (changed_follows h.prefix t.given text old.check before)
-      by (Err e) none is before = subst (InTable h.prefix t.given) (sym is) before
+      by : {A E : Type 0} (result : Result A E) → OnOk result (document ≡ restarted version encoding text old) → OnErr result (document ≡ old) → Follows h.prefix t.given old.check → length old.check.text ≤ TEXT_LIMIT → InTable h.prefix t.given document × IsShort document
+      by (Ok a) is none before small = (subst (InTable h.prefix t.given) (sym is) (changed_follows h.prefix t.given text old.check before), subst IsShort (sym is) short)
+      by (Err e) none is before small = (subst (InTable h.prefix t.given) (sym is) before, subst IsShort (sym is) small)
 
   pub holds_removed : (t : Table S) (documents new : List Document) (place : ℕ) → Holds meaning means t documents → new ≡ remove documents place → Holds meaning means t new
   holds_removed t documents new place h e = record {
@@ -76,3 +78,12 @@ module _ {S M : Type 0} (meaning : S → M) (means : Meanings M) where
     follow = subst (All (InTable h.prefix t.given)) (sym e)
         (All-append (InTable h.prefix t.given) (take place documents) (drop (suc place) documents) (All-take (InTable h.prefix t.given) place documents h.follow) (All-drop (InTable h.prefix t.given) (suc place) documents h.follow));
   }
+
+  -- where nothing is open, and nothing is held
+  pub holds_new : (t : Table S) (root : S) → meaning root ≡ means.first → t ≡ table root 0 [] → Holds meaning means t []
+  holds_new t root first e = subst (λ u. Holds meaning means u []) (sym e) (record {
+    short = All-nil IsShort;
+    prefix = λ n. [];
+    fits = record { zero = refl; root = first; rows = λ x none. absurd (omega (arith, none.1)) };
+    follow = All-nil (InTable (λ n. []) 0);
+  })

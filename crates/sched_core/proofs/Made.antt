@@ -1,5 +1,5 @@
 -- A step of the documents is that of the message.
-use Rattle.std.proofs.Common.{◌≡◌, ℕ, ℤ, ◌+◌, ◌<◌, ◌≤◌, int_le, Bool, not, false, true, None, Some, Result, Ok, Err, OnOk, IfOk, codes, List, [], ◌∷◌, length, get_or, slice_set, nat_le, refl, ap, sym, subst, ◌∙◌, arith, if◌then◌else◌}
+use Rattle.std.proofs.Common.{◌≡◌, ℕ, ℤ, ◌+◌, ◌<◌, ◌≤◌, int_le, Bool, not, false, true, None, Some, Result, Ok, Err, OnOk, IfOk, codes, List, [], ◌∷◌, ◌++◌, length, get_or, slice_set, nat_le, refl, ap, sym, subst, ◌∙◌, arith, if◌then◌else◌}
 use Rattle.std.proofs.lemmas.Bool.{lt-leb, le-leb}
 use Rattle.std.proofs.lemmas.List.{get_or_read, get_or-set_same}
 use Rattle.base_core.specs.declared.limits.TheConstants.{TEXT_LIMIT, DOCUMENT_LIMIT}
@@ -10,14 +10,16 @@ use Rattle.utf16_doc.specs.declared.stops.DocStop.{DocStop}
 use Rattle.utf16_doc.specs.declared.stops.DocStop.TheVariants.{RangeReversed, TooLong}
 use Rattle.lsp_types.specs.declared.messages.Note.{Note}
 use Rattle.lsp_types.specs.declared.messages.Note.TheVariants as note
+use Rattle.prover_iface.specs.Exec.{Worked}
 use Rattle.doc_check.specs.Check.{Views}
 use Rattle.doc_check.specs.Document.{done, all_done}
 use Rattle.sched_core.specs.declared.events.Written.{Written}
 use Rattle.sched_core.specs.declared.events.Event.{Event}
 use Rattle.sched_core.specs.declared.open_document.NewText.{NewText}
 use Rattle.sched_core.specs.Step.{Step, Makes}
-use Rattle.sched_core.specs.Session.{Document, Session, document_in, document_at, place_of, unchecked, idles, AreShort, set_documents, update}
-use Rattle.sched_core.specs.Done.{take_kept, came}
+use Rattle.sched_core.specs.Session.{Document, Session, document_in, document_at, place_of, unchecked, idles, AreShort, Held, set_documents, update}
+use Rattle.sched_core.specs.Done.{Came, take_kept, with_check, came}
+use Rattle.sched_core.specs.Coming.{Comes}
 use Rattle.sched_core.specs.Work.{spent_on, progress_since, granted, grant_at}
 use Rattle.sched_core.specs.Documents.{settle, renewed, restarted, status_bodies, is_too_long, did_open, add, did_change, change_at, renew, renew_by, text_behind, Edits, refuse, did_close}
 use Rattle.sched_core.specs.Bodies.{log_body}
@@ -139,3 +141,24 @@ seen_at items documents place document same within read =
 pub idles_made : (views : Views) (session : Session) (e : Event) (r : Result Written NoMem) (after : Session) → AreShort session.documents → Makes (step views session e) r after → OnOk r (IdlesLeft e session after)
 idles_made views session e (Ok w) after short made = subst (λ s. IdlesLeft e session s) (sym made.2) (steps_end views session e short)
 idles_made views session e (Err none) after short made = tt
+
+-- a document more
+pub add_made : (views : Views) (session mid new : Session) (place : ℕ) (document : Document) (r : Result Written NoMem) → place ≡ length session.documents → mid ≡ set_documents (session.documents ++ document ∷ []) session → Makes (settle views place mid) r new → Makes (add views document session) r new
+add_made views session mid new place document r last is made =
+    subst (λ n. Makes (settle views n (set_documents (session.documents ++ document ∷ []) session)) r new) last (subst (λ s. Makes (settle views place s) r new) is made)
+
+-- the document at a place and what is held are these now
+abbrev pub put_at : ℕ → Document → Held → Session → Session
+put_at place document held session = record session { documents = slice_set session.documents place document; held = held }
+
+-- a call on the document at a place
+pub at_made : {A E : Type 0} (result : Result A E) (f : Document → Held → Came) (inside session : Session) (place : ℕ) (old document : Document) (held : Held) → inside ≡ session → old ≡ document_in inside.documents place → Comes (f old inside.held) old result document held → OnOk result (put_at place document held inside ≡ came place (f (document_at session place) session.held) session)
+at_made (Err error) f inside session place old document held same seen comes = tt
+at_made (Ok answer) f inside session place old document held same seen comes =
+    ap (λ d. put_at place d held inside) (comes.0 ∙ ap (λ o. with_check (f o inside.held).check o) seen)
+    ∙ ap (λ h. put_at place (with_check (f (document_at inside place) inside.held).check (document_at inside place)) h inside) (comes.1 ∙ ap (λ o. (f o inside.held).held) seen)
+    ∙ ap (λ s. came place (f (document_at s place) s.held) s) same
+
+pub at_work : {A E : Type 0} (result : Result A E) (f : Document → Held → Came) (inside session : Session) (place : ℕ) (old : Document) (before now : ℕ) → inside ≡ session → old ≡ document_in inside.documents place → Worked (f old inside.held).work before now result → Worked (f (document_at session place) session.held).work before now result
+at_work result f inside session place old before now same seen works =
+    subst (λ s. Worked (f (document_at s place) s.held).work before now result) same (subst (λ d. Worked (f d inside.held).work before now result) seen works)

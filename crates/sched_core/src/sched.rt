@@ -175,6 +175,7 @@ impl<P: Prover> Sched<P> {
             take new.first_changed old.check.text ≡ take new.first_changed new.doc.text }
         ensures { OnOk result (self.new ≡ update place (restarted version new.doc.encoding new.doc.text) self.old) }
     {
+        let _text = new.doc.text();
         self.documents[place].replace(alloc, version, new)
     }
 
