@@ -9,3 +9,4 @@ pub mod Idles
 pub mod Kept
 pub mod Made
 pub mod Free
+pub mod Settled
