@@ -3,6 +3,7 @@
 use Rattle.std.specs.Prelude.{◌≡◌, ℕ, zero, suc, ◌-◌, nat_le, Bool, ◌&&◌, false, Option, None, Some, List, [], ◌∷◌, ◌++◌, map, length, take, min, slice_index_or, bytes_eq}
 use Rattle.std.specs.List.{common_prefix_len}
 use Rattle.base_core.specs.contracts.kind.KindPartialEq.TheImpl as kinds
+use Rattle.sentence_split.specs.declared.spans.Span.{Span}
 use Rattle.sentence_split.specs.Sentences.{sentences}
 use Rattle.prover_iface.specs.Sentences.{Sentence}
 use Rattle.prover_iface.specs.Meanings.{Meanings, state_behind}
@@ -46,6 +47,10 @@ last_of numbers = slice_index_or (0 ∷ numbers) (length numbers) 0
 -- the first sentence that isn't finished
 abbrev pub next_of : Doc → Sentence
 next_of d = sentence_at d.text (span_of (sentences 0 0 d.text) (done d))
+
+-- its place
+abbrev pub next_span : Doc → Span
+next_span d = span_of (sentences 0 0 d.text) (done d)
 
 -- what it is found by: itself, and the number that it is reached from
 abbrev pub next_key : Doc → Key

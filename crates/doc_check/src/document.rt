@@ -11,12 +11,13 @@ ghost use Rattle.memo_table.specs.Entries.{number_of};
 ghost use Rattle.memo_table.specs.Table.{with_rows};
 ghost use Rattle.memo_table.specs.Fits.{Fits};
 ghost use Rattle.doc_check.specs.Check.{sentence_at, span_of, count, checked, IsPlaced};
-ghost use Rattle.doc_check.specs.Document.{doc, parts, state_at, done, all_done, last_of, next_of, next_key, state_here, with_number, taken, took, IsTaken, same_sentence, changed};
+ghost use Rattle.doc_check.specs.Document.{doc, parts, state_at, done, all_done, last_of, next_of, next_key, next_span, state_here, with_number, taken, took, IsTaken, same_sentence, changed};
 ghost use Rattle.doc_check.specs.Stands.{Follows, Stands, Moved, IsHeld, IsKept, Runs, Advanced, cost_here, TookOne};
 
 use crate::finished::{Finished, copy_of, from_kept};
 use crate::reporting::report_diags;
-use crate::{Advance, Report};
+use crate::incremental::next_from;
+use crate::{AbsDiagList, Advance, Report};
 use base_core::{NoMem, Steps, Text};
 use memo_table::{Kept, Key, MemoTable};
 use prover_iface::{DiagList, Outcome, Prover};
@@ -51,7 +52,12 @@ impl<P: Prover> Model for DocCheck<P> {
 
 impl<P: Prover> DocCheck<P> {
     /// A text of at most `TEXT_LIMIT` bytes of which no sentence is finished, over the prover's first state.
-    fn begun(alloc: Global, text: Text, prover: &P, first: &P::State) -> Result<DocCheck<P>, NoMem>
+    pub fn begun(
+        alloc: Global,
+        text: Text,
+        prover: &P,
+        first: &P::State,
+    ) -> Result<DocCheck<P>, NoMem>
         requires short { length text ≤ TEXT_LIMIT }
         requires first { P.meaning first.now ≡ P.means.first }
         ensures { IfOk result (λ d. d ≡ doc text []) }
@@ -209,7 +215,7 @@ impl<P: Prover> DocCheck<P> {
     }
 
     /// Takes sentences as long as the table has the next one.
-    fn take_kept(
+    pub fn take_kept(
         &mut self,
         alloc: Global,
         prover: &P,
@@ -384,7 +390,12 @@ impl<P: Prover> DocCheck<P> {
 
     /// Another text, which differs from this one at no byte before the first that was changed. The sentences
     /// stay finished that both texts begin with.
-    fn change(&mut self, alloc: Global, text: Text, first_changed: u32) -> Result<(), NoMem>
+    pub fn change(
+        &mut self,
+        alloc: Global,
+        text: Text,
+        first_changed: u32,
+    ) -> Result<(), NoMem>
         requires short { length text ≤ TEXT_LIMIT }
         requires same { take first_changed self.old.text ≡ take first_changed text }
         ensures new { OnOk result (self.new ≡ changed text self.old) }
@@ -426,6 +437,32 @@ impl<P: Prover> DocCheck<P> {
     {
         self.change(alloc, text, first_changed)?;
         self.take_kept(alloc, prover, table)
+    }
+
+    /// The byte at which the first sentence that isn't finished begins.
+    pub fn next_from(&self) -> usize
+        requires { all_done self.now ≡ false }
+        ensures from { result ≡ (next_span self.now).from }
+        ensures within { result ≤ length self.now.text }
+    {
+        next_from(&self.spans, self.done(), self.text.as_str().len())
+    }
+
+    /// All that is told of the text, in order.
+    pub fn diags(&self, alloc: Global, prover: &P) -> Result<AbsDiagList, NoMem>
+        requires { all_done self.now ≡ true }
+        ensures diags { IfOk result (λ diags. diags ≡ (checked P.means self.now.text).diags) }
+        ensures placed { IfOk result (λ diags. All (IsPlaced (length self.now.text)) diags) }
+    {
+        let last = self.state_after(self.done());
+        report_diags(
+            alloc,
+            prover,
+            last,
+            self.text.as_str(),
+            &self.spans,
+            self.finished.as_slice(),
+        )
     }
 
     /// All that is told of the text, and what it declares.

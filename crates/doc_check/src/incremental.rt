@@ -290,7 +290,7 @@ impl<P: Prover> DocCheck<P> {
 }
 
 /// Where the sentence of a number begins.
-fn next_from(spans: &SpanList, number: usize, len: usize) -> usize
+pub(crate) fn next_from(spans: &SpanList, number: usize, len: usize) -> usize
     requires within { number < length spans.now }
     requires placed { (text : List ℕ) × (length text ≡ len) × All (IsSpanOf text) spans.now }
     ensures from { result ≡ (span_of spans.now number).from }

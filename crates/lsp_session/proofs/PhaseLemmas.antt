@@ -14,7 +14,7 @@ use Rattle.lsp_types.specs.declared.error_codes.ErrorCode.TheVariants as error
 use Rattle.utf16_doc.specs.declared.stops.DocStop.{DocStop}
 use Rattle.utf16_doc.specs.declared.stops.DocStop.TheVariants as stop
 use Rattle.doc_check.specs.Check.{Views}
-use Rattle.doc_check.specs.Incremental.{is_ended}
+use Rattle.doc_check.specs.Document.{all_done}
 use Rattle.sched_core.specs.declared.events.Event.TheVariants as event
 use Rattle.sched_core.specs.declared.events.Exit.{Exit}
 use Rattle.sched_core.specs.declared.phase.Phase.{Phase}
@@ -65,7 +65,7 @@ change_leads views session version changes place =
     (renew_leads views session version (text_behind changes (document_at session place)) place)
 
 grant_leads : (views : Views) (session : Session) (units place : ℕ) → Leads (grant_at views units place session) session.phase None
-grant_leads views session units place = leads_if (is_ended (document_at session place).check) _ _ _ _ (record { phase = refl; exit = refl }) (record { phase = refl; exit = refl })
+grant_leads views session units place = leads_if (all_done (document_at session place).check) _ _ _ _ (record { phase = refl; exit = refl }) (record { phase = refl; exit = refl })
 
 -- requests
 fresh_leads : (session : Session) (id : Id) (call : Call) → session.phase ≡ Fresh → Leads (request_fresh id call session) (phase_after_call Fresh call) None

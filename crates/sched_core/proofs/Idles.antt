@@ -1,5 +1,5 @@
 -- How many steps without a message are left behind a step.
-use Rattle.std.proofs.Common.{◌≡◌, ℕ, zero, suc, ◌+◌, ◌-◌, ◌<◌, ◌≤◌, ◌||◌, Bool, not, true, false, nat_le, int_le, None, Some, is_some, Option, Ok, Err, Result, List, [], ◌∷◌, ◌++◌, length, get_or, if◌then◌else◌, arith, subst, sym, refl, ap, ◌∙◌, All}
+use Rattle.std.proofs.Common.{◌≡◌, ℕ, zero, suc, ◌+◌, ◌-◌, ◌<◌, ◌≤◌, ◌||◌, Bool, not, true, false, nat_le, int_le, None, Some, is_some, Option, Ok, Err, Result, List, [], ◌∷◌, ◌++◌, length, get_or, length-append, length-set, if◌then◌else◌, arith, subst, sym, refl, ap, ◌∙◌, All}
 use Rattle.std.specs.List.{sum_by, remove, slice_set}
 use Rattle.std.specs.Result.{IfOk}
 use Rattle.std.proofs.lemmas.Bool.{ltb-false, leb-false}
@@ -25,7 +25,7 @@ use Rattle.lsp_types.specs.declared.messages.Incoming.TheVariants as incoming
 use Rattle.lsp_types.specs.declared.messages.DecodeFault.{DecodeFault}
 use Rattle.lsp_types.specs.declared.messages.DecodeFault.TheVariants as fault
 use Rattle.doc_check.specs.Check.{count, Views}
-use Rattle.doc_check.specs.Incremental.{is_ended}
+use Rattle.doc_check.specs.Document.{done, all_done, changed}
 use Rattle.lsp_types.specs.declared.error_codes.ErrorCode.TheVariants as error
 use Rattle.sched_core.specs.declared.events.Exit.{Exit}
 use Rattle.sched_core.specs.declared.events.Exit.TheVariants.{Early, Clean}
@@ -34,15 +34,17 @@ use Rattle.sched_core.specs.declared.events.Event.TheVariants as event
 use Rattle.sched_core.specs.declared.phase.Phase.{Phase}
 use Rattle.sched_core.specs.declared.phase.Phase.TheVariants.{Fresh, Running, ShutDown}
 use Rattle.sched_core.specs.Step.{Step, stays}
-use Rattle.sched_core.specs.Session.{Document, Session, document_in, document_at, place_of, first_unended, unfinished, idles, AreShort, unchecked}
+use Rattle.sched_core.specs.Session.{Document, Session, document_in, document_at, place_of, first_unended, unfinished, idles, AreShort, unchecked, set_documents, update}
 use Rattle.sched_core.specs.Documents.{refuse, at_known, is_too_long, edited_text, text_behind, add, did_open, renew, renewed, renew_by, change_at, close_at}
-use Rattle.sched_core.specs.Work.{spend, spend_on, spent_on, with_next_done, granted, grant_at, run_at, run_first, is_shut_down, all_ended, waits}
+use Rattle.sched_core.specs.Done.{Came, with_check, take_kept, came}
+use Rattle.sched_core.specs.Work.{spent_on, ran_on, granted, grant_at, run_at, run_first, is_shut_down, all_ended, waits}
 use Rattle.sched_core.specs.Messages.{by_phase, request, request_fresh, request_running, refuse_request, notify, notify_exit, notify_running, refuse_body, hear}
 use Rattle.sched_core.specs.Messages as messages
 use Rattle.sched_core.specs.Plain.{step, IdlesLeft}
 use Rattle.sched_core.proofs.Kept.{IsShort}
 use Rattle.sched_core.proofs.Few.{few}
-use Rattle.sched_core.proofs.Units.{spend_more}
+use Rattle.sched_core.proofs.Taken.{taken_text, taken_done}
+use Rattle.sched_core.proofs.Units.{spend_more, spend_text, run_more, run_text}
 
 -- a text has no more sentences than bytes
 few_of : (document : Document) → unfinished document ≤ length document.check.text
@@ -75,6 +77,15 @@ set_at : (documents : List Document) (place : ℕ) (document : Document) → pla
 set_at documents place document within h =
     omega (arith, sum_by-set unfinished documents place document (document_in [] 0) within, few_of document, h)
 
+-- a document that takes what is held, or runs, has no more to do
+came_at : (session : Session) (place : ℕ) (c : Came) → place < length session.documents → c.check.text ≡ (document_at session place).check.text → done (document_at session place).check ≤ done c.check → idles (came place c session) ≤ idles session
+came_at session place c within text more =
+    omega (arith, sum_by-set unfinished session.documents place (with_check c.check (document_at session place)) (document_in [] 0) within, ap count text, more)
+
+taken_at : (session : Session) (place : ℕ) → place < length session.documents → idles (came place (take_kept (document_at session place).check session.held) session) ≤ idles session
+taken_at session place within =
+    came_at session place (take_kept (document_at session place).check session.held) within (taken_text (document_at session place).check session.held.rows) (taken_done (document_at session place).check session.held.rows)
+
 removed_at : (documents : List Document) (place : ℕ) → place < length documents → sum_by unfinished (remove documents place) ≤ sum_by unfinished documents + TEXT_LIMIT
 removed_at documents place within = omega (arith, sum_by-remove unfinished documents place (document_in [] 0) within)
 
@@ -88,6 +99,17 @@ known_adds : (session : Session) (uri : List ℕ) (found : Option ℕ) (next : �
 known_adds session uri None next e h = none_added session (at_known None next session) refl
 known_adds session uri (Some place) next e h = h place (found_within uri session.documents place e)
 
+-- a document more takes what is held
+abbrev add_state : Session → Document → Session
+add_state session document =
+    let more : Session = set_documents (session.documents ++ document ∷ []) session in
+    came (length session.documents) (take_kept (document_at more (length session.documents)).check more.held) more
+
+opened_at : (session : Session) (document : Document) → length document.check.text ≤ TEXT_LIMIT → idles (add_state session document) ≤ idles session + TEXT_LIMIT
+opened_at session document h =
+    let more : Session = set_documents (session.documents ++ document ∷ []) session in
+    omega (arith, taken_at more (length session.documents) (omega (arith, length-append session.documents (document ∷ []))), pushed session.documents document h)
+
 open_adds : (views : Views) (uri : List ℕ) (version : _) (text : List ℕ) (session : Session) → Adds session (did_open views uri version text session)
 open_adds views uri version text session =
     let new : Step Session = add views (unchecked uri version session.encoding text) session in
@@ -96,11 +118,13 @@ open_adds views uri version text session =
     if_adds session (is_some (place_of uri session.documents)) (refuse (codes "document already open") session) room (none_added session (refuse (codes "document already open") session) refl)
     (λ e. if_adds session (nat_le DOCUMENT_LIMIT (length session.documents)) (refuse (codes "too many documents") session) short (none_added session (refuse (codes "too many documents") session) refl)
     (λ f. if_adds session (is_too_long text) (refuse (codes "text too long") session) new (none_added session (refuse (codes "text too long") session) refl)
-    (λ g. adds session new (pushed session.documents (unchecked uri version session.encoding text) (fits text g)))))
+    (λ g. adds session new (opened_at session (unchecked uri version session.encoding text) (fits text g)))))
 
 renew_adds : (views : Views) (version : _) (session : Session) (place : ℕ) (text : Result (List ℕ) DocStop) → place < length session.documents → IfOk text (λ t. length t ≤ TEXT_LIMIT) → Adds session (renew_by views place version text session)
 renew_adds views version session place (Ok text) within short =
-    adds session (renew views place version text session) (set_at session.documents place (renewed version text (document_at session place)) within short)
+    let new : Session = update place (renewed version text) session in
+    adds session (renew views place version text session)
+    (omega (arith, taken_at new place (omega (arith, within, length-set session.documents place (renewed version text (document_at session place)))), set_at session.documents place (renewed version text (document_at session place)) within short))
 renew_adds views version session place (Err RangeReversed) within short = none_added session (refuse (codes "range reversed") session) refl
 renew_adds views version session place (Err TooLong) within short = none_added session (refuse (codes "text too long") session) refl
 renew_adds views version session place (Err NoMem) within short = none_added session (stays session) refl
@@ -117,15 +141,16 @@ change_adds views version changes session short place within =
     (λ e. renew_adds views version session place (text_behind changes old) within
     (edited_short old.encoding old.check.text changes (changes_in old.encoding old.check.text changes) (All-get_or IsShort session.documents place (document_in [] 0) within short) refl))
 
-spent_at : (views : Views) (units : ℕ) (session : Session) (place : ℕ) → place < length session.documents → sum_by unfinished (slice_set session.documents place (spent_on views units (document_at session place))) ≤ sum_by unfinished session.documents + TEXT_LIMIT
+spent_at : (views : Views) (units : ℕ) (session : Session) (place : ℕ) → place < length session.documents → idles (came place (spent_on views units (document_at session place) session.held) session) ≤ idles session
 spent_at views units session place within =
     let old : Document = document_at session place in
-    omega (arith, sum_by-set unfinished session.documents place (spent_on views units old) (document_in [] 0) within, spend_more (views.cost old.check.text) (count old.check.text - old.check.done) old.check.done units)
+    came_at session place (spent_on views units old session.held) within
+    (spend_text (views.cost old.check.text) old.check session.held units) (spend_more (views.cost old.check.text) old.check session.held units)
 
 grant_adds : (views : Views) (units : ℕ) (session : Session) (place : ℕ) → place < length session.documents → Adds session (grant_at views units place session)
 grant_adds views units session place within =
-    if_adds session (is_ended (document_at session place).check) _ _ (none_added session (stays session) refl)
-    (λ e. adds session (granted views units place session) (spent_at views units session place within))
+    if_adds session (all_done (document_at session place).check) _ _ (none_added session (stays session) refl)
+    (λ e. adds session (granted views units place session) (omega (arith, spent_at views units session place within)))
 
 note_adds : (views : Views) (heard : Note) (session : Session) → AreShort session.documents → Adds session (notify_running views heard session)
 note_adds views note.Initialized session short = none_added session (stays session) refl
@@ -194,14 +219,18 @@ untrue true h = sym h
 untrue false h = refl
 
 -- the first that is not ended
-pub unended_at : (documents : List Document) (place : ℕ) → first_unended documents ≡ Some place → is_ended (document_in documents place).check ≡ false
-unended_at documents place found = untrue (is_ended (document_in documents place).check) (position-Some (λ d. not (is_ended d.check)) documents place (document_in [] 0) found).1
+pub unended_at : (documents : List Document) (place : ℕ) → first_unended documents ≡ Some place → all_done (document_in documents place).check ≡ false
+unended_at documents place found = untrue (all_done (document_in documents place).check) (position-Some (λ d. not (all_done d.check)) documents place (document_in [] 0) found).1
 
 run_takes : (views : Views) (session : Session) (place : ℕ) → first_unended session.documents ≡ Some place → idles (run_at views place session).state < idles session
 run_takes views session place found =
-    let within : place < length session.documents = (position-Some (λ d. not (is_ended d.check)) session.documents place (document_in [] 0) found).0 in
-    let left : (document_at session place).check.done < count (document_at session place).check.text = leb-false (count (document_at session place).check.text) (document_at session place).check.done (unended_at session.documents place found) in
-    omega (arith, sum_by-set unfinished session.documents place (with_next_done (document_at session place)) (document_in [] 0) within, left)
+    let old : Document = document_at session place in
+    let within : place < length session.documents = (position-Some (λ d. not (all_done d.check)) session.documents place (document_in [] 0) found).0 in
+    let left : done old.check < count old.check.text = leb-false (count old.check.text) (done old.check) (unended_at session.documents place found) in
+    let ran : Came = ran_on views old session.held in
+    let more : done old.check < done ran.check = run_more (views.cost old.check.text) old.check session.held left in
+    let same : ran.check.text ≡ old.check.text = run_text (views.cost old.check.text) old.check session.held in
+    omega (arith, sum_by-set unfinished session.documents place (with_check ran.check old) (document_in [] 0) within, left, more, ap count same)
 
 idle_takes : (views : Views) (session : Session) → waits session ≡ false → idles (step views session event.Idle).state < idles session
 idle_takes views session h = rw h (by (first_unended session.documents) refl) where

@@ -1,27 +1,89 @@
--- The texts of all documents stay within the limit.
-use Rattle.std.proofs.Common.{◌≡◌, ℕ, ◌+◌, ◌<◌, ◌≤◌, suc, List, [], ◌∷◌, ◌++◌, length, get_or, take, drop, remove, slice_set, sym, subst, ap, ◌∙◌, All}
-use Rattle.std.proofs.lemmas.List.Elements.{All-append, All-push, All-set, All-take, All-drop, All-get_or}
+-- The texts of all documents stay within the limit, and their numbers stand in the table.
+use Rattle.std.proofs.Common.{◌≡◌, ℕ, ℤ, ◌+◌, ◌<◌, ◌≤◌, suc, Result, Ok, Err, OnOk, OnErr, List, [], ◌∷◌, ◌++◌, length, get_or, take, drop, remove, slice_set, arith, refl, sym, subst, ap, ◌∙◌, All}
+use Rattle.std.proofs.lemmas.List.Elements.{All-nil, All-append, All-push, All-set, All-take, All-drop, All-get_or}
 use Rattle.base_core.specs.declared.limits.TheConstants.{TEXT_LIMIT}
+use Rattle.utf16_doc.specs.declared.encoding.Encoding.{Encoding}
+use Rattle.prover_iface.specs.Sentences.{Sentence}
 use Rattle.prover_iface.specs.Meanings.{Meanings}
+use Rattle.memo_table.specs.Table.{Table, table}
+use Rattle.doc_check.specs.Document.{Doc, changed}
+use Rattle.doc_check.specs.Stands.{Follows, Stands}
+use Rattle.doc_check.proofs.Advancing.{changed_follows}
 use Rattle.sched_core.specs.Session.{Document, document_in, AreShort, Holds}
+use Rattle.sched_core.specs.Documents.{restarted}
+use Rattle.sched_core.specs.Coming.{Carries}
+use Rattle.sched_core.proofs.Carrying.{follows_still}
 
 abbrev pub IsShort : Document → Type 0
 IsShort document = length document.check.text ≤ TEXT_LIMIT
 
-pub holds_push : {M : Type 0} (means : Meanings M) (first : M) (documents new : List Document) (document : Document) → Holds means first documents → length document.check.text ≤ TEXT_LIMIT → new ≡ documents ++ document ∷ [] → Holds means first new
-holds_push means first documents new document h short e =
-    record { first_is = h.first_is; short = subst AreShort (sym e) (All-push IsShort documents document h.short short) }
+abbrev InTable : (ℕ → List Sentence) → ℕ → Document → Type 0
+InTable prefix given document = Follows prefix given document.check
 
-pub holds_set : {M : Type 0} (means : Meanings M) (first : M) (documents new : List Document) (place : ℕ) (document : Document) → Holds means first documents → length document.check.text ≤ TEXT_LIMIT → new ≡ slice_set documents place document → Holds means first new
-holds_set means first documents new place document h short e =
-    record { first_is = h.first_is; short = subst AreShort (sym e) (All-set IsShort documents place document short h.short) }
+nothing_yet : (prefix : ℕ → List Sentence) (given : ℕ) (d : Doc) → d.numbers ≡ [] → Follows prefix given d
+nothing_yet prefix given d none =
+    record { known = λ k h. absurd (omega (arith, h, ap length none)); stands = λ k h. absurd (omega (arith, h, ap length none)) }
 
--- a document of the same text
-pub holds_same : {M : Type 0} (means : Meanings M) (first : M) (documents new : List Document) (place : ℕ) (document : Document) → Holds means first documents → place < length documents → document.check.text ≡ (document_in documents place).check.text → new ≡ slice_set documents place document → Holds means first new
-holds_same means first documents new place document h within same e =
-    holds_set means first documents new place document h
-    (subst (λ t. length t ≤ TEXT_LIMIT) (sym same) (All-get_or IsShort documents place (document_in [] 0) within h.short)) e
+module _ {S M : Type 0} (meaning : S → M) (means : Meanings M) where
+  pub holds_push : (t : Table S) (documents new : List Document) (document : Document) → Holds meaning means t documents → length document.check.text ≤ TEXT_LIMIT → document.check.numbers ≡ [] → new ≡ documents ++ document ∷ [] → Holds meaning means t new
+  holds_push t documents new document h short none e = record {
+    short = subst AreShort (sym e) (All-push IsShort documents document h.short short);
+    prefix = h.prefix;
+    fits = h.fits;
+    follow = subst (All (InTable h.prefix t.given)) (sym e) (All-push (InTable h.prefix t.given) documents document h.follow (nothing_yet h.prefix t.given document.check none));
+  }
 
-pub holds_removed : {M : Type 0} (means : Meanings M) (first : M) (documents new : List Document) (place : ℕ) → Holds means first documents → new ≡ remove documents place → Holds means first new
-holds_removed means first documents new place h e =
-    record { first_is = h.first_is; short = subst AreShort (sym e) (All-append IsShort (take place documents) (drop (suc place) documents) (All-take IsShort place documents h.short) (All-drop IsShort (suc place) documents h.short)) }
+  -- the document at a place and the table go on together
+  pub holds_moved : (t u : Table S) (documents new : List Document) (place : ℕ) (document : Document) → Holds meaning means t documents → place < length documents → Carries meaning means t u (document_in documents place).check document.check → new ≡ slice_set documents place document → Holds meaning means u new
+  holds_moved t u documents new place document h within carries e =
+      let moved = carries.moved h.prefix h.fits (All-get_or (InTable h.prefix t.given) documents place (document_in [] 0) within h.follow) in
+      record {
+        short = subst AreShort (sym e) (All-set IsShort documents place document (subst (λ text. length text ≤ TEXT_LIMIT) (sym carries.text) (All-get_or IsShort documents place (document_in [] 0) within h.short)) h.short);
+        prefix = moved.now;
+        fits = moved.fits;
+        follow = subst (All (InTable moved.now u.given)) (sym e)
+            (All-set (InTable moved.now u.given) documents place document moved.follows
+            (λ i d less. follows_still h.prefix moved.now t.given u.given (get_or documents i d).check moved.same moved.more (h.follow i d less)));
+      }
+
+  pub stands_at : (t : Table S) (documents : List Document) (place : ℕ) (document : Document) → Holds meaning means t documents → place < length documents → document ≡ document_in documents place → Stands meaning means t document.check
+  stands_at t documents place document h within is = record {
+    prefix = h.prefix;
+    fits = h.fits;
+    follows = subst (InTable h.prefix t.given) (sym is) (All-get_or (InTable h.prefix t.given) documents place (document_in [] 0) within h.follow);
+  }
+
+  -- a new version, or none
+  pub holds_renewed : {A E : Type 0} (t : Table S) (documents new : List Document) (place : ℕ) (version : ℤ) (encoding : Encoding) (text : List ℕ) (old document : Document) (result : Result A E) → Holds meaning means t documents → place < length documents → old ≡ document_in documents place → OnOk result (document ≡ restarted version encoding text old) → OnErr result (document ≡ old) → length text ≤ TEXT_LIMIT → new ≡ slice_set documents place document → Holds meaning means t new
+  holds_renewed t documents new place version encoding text old document result h within old_is done undone short e =
+      let before : Follows h.prefix t.given old.check = subst (InTable h.prefix t.given) (sym old_is) (All-get_or (InTable h.prefix t.given) documents place (document_in [] 0) within h.follow) in
+      let small : length old.check.text ≤ TEXT_LIMIT = subst IsShort (sym old_is) (All-get_or IsShort documents place (document_in [] 0) within h.short) in
+      let now = by result done undone before small in
+      record {
+        short = subst AreShort (sym e) (All-set IsShort documents place document now.1 h.short);
+        prefix = h.prefix;
+        fits = h.fits;
+        follow = subst (All (InTable h.prefix t.given)) (sym e) (All-set (InTable h.prefix t.given) documents place document now.0 h.follow);
+      }
+    where
+      by : {A E : Type 0} (result : Result A E) → OnOk result (document ≡ restarted version encoding text old) → OnErr result (document ≡ old) → Follows h.prefix t.given old.check → length old.check.text ≤ TEXT_LIMIT → InTable h.prefix t.given document × IsShort document
+      by (Ok a) is none before small = (subst (InTable h.prefix t.given) (sym is) (changed_follows h.prefix t.given text old.check before), subst IsShort (sym is) short)
+      by (Err e) none is before small = (subst (InTable h.prefix t.given) (sym is) before, subst IsShort (sym is) small)
+
+  pub holds_removed : (t : Table S) (documents new : List Document) (place : ℕ) → Holds meaning means t documents → new ≡ remove documents place → Holds meaning means t new
+  holds_removed t documents new place h e = record {
+    short = subst AreShort (sym e) (All-append IsShort (take place documents) (drop (suc place) documents) (All-take IsShort place documents h.short) (All-drop IsShort (suc place) documents h.short));
+    prefix = h.prefix;
+    fits = h.fits;
+    follow = subst (All (InTable h.prefix t.given)) (sym e)
+        (All-append (InTable h.prefix t.given) (take place documents) (drop (suc place) documents) (All-take (InTable h.prefix t.given) place documents h.follow) (All-drop (InTable h.prefix t.given) (suc place) documents h.follow));
+  }
+
+  -- where nothing is open, and nothing is held
+  pub holds_new : (t : Table S) (root : S) → meaning root ≡ means.first → t ≡ table root 0 [] → Holds meaning means t []
+  holds_new t root first e = subst (λ u. Holds meaning means u []) (sym e) (record {
+    short = All-nil IsShort;
+    prefix = λ n. [];
+    fits = record { zero = refl; root = first; rows = λ x none. absurd (omega (arith, none.1)) };
+    follow = All-nil (InTable (λ n. []) 0);
+  })

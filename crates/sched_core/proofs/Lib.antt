@@ -1,8 +1,12 @@
 pub mod Floats
 pub mod Few
 pub mod Lists
+pub mod Taken
+pub mod Carrying
 pub mod Units
+pub mod Spending
 pub mod Idles
 pub mod Kept
 pub mod Made
 pub mod Free
+pub mod Settled

@@ -1,5 +1,5 @@
 -- A step of the documents is that of the message.
-use Rattle.std.proofs.Common.{◌≡◌, ℕ, ℤ, ◌+◌, ◌<◌, ◌≤◌, int_le, Bool, not, false, true, None, Some, Result, Ok, Err, OnOk, IfOk, codes, List, [], ◌∷◌, length, get_or, slice_set, nat_le, refl, ap, sym, subst, ◌∙◌, arith, if◌then◌else◌}
+use Rattle.std.proofs.Common.{◌≡◌, ℕ, ℤ, ◌+◌, ◌<◌, ◌≤◌, int_le, Bool, not, false, true, None, Some, Result, Ok, Err, OnOk, IfOk, codes, List, [], ◌∷◌, ◌++◌, length, get_or, slice_set, nat_le, refl, ap, sym, subst, ◌∙◌, arith, if◌then◌else◌}
 use Rattle.std.proofs.lemmas.Bool.{lt-leb, le-leb}
 use Rattle.std.proofs.lemmas.List.{get_or_read, get_or-set_same}
 use Rattle.base_core.specs.declared.limits.TheConstants.{TEXT_LIMIT, DOCUMENT_LIMIT}
@@ -8,17 +8,20 @@ use Rattle.base_core.specs.declared.places.Change.{Change}
 use Rattle.utf16_doc.specs.declared.encoding.Encoding.{Encoding}
 use Rattle.utf16_doc.specs.declared.stops.DocStop.{DocStop}
 use Rattle.utf16_doc.specs.declared.stops.DocStop.TheVariants.{RangeReversed, TooLong}
-use Rattle.utf16_doc.specs.Indexed.{Document as Indexed}
 use Rattle.lsp_types.specs.declared.messages.Note.{Note}
 use Rattle.lsp_types.specs.declared.messages.Note.TheVariants as note
+use Rattle.prover_iface.specs.Exec.{Worked}
 use Rattle.doc_check.specs.Check.{Views}
-use Rattle.doc_check.specs.Incremental.{Progress, progress, is_ended}
+use Rattle.doc_check.specs.Document.{done, all_done}
 use Rattle.sched_core.specs.declared.events.Written.{Written}
 use Rattle.sched_core.specs.declared.events.Event.{Event}
+use Rattle.sched_core.specs.declared.open_document.NewText.{NewText}
 use Rattle.sched_core.specs.Step.{Step, Makes}
-use Rattle.sched_core.specs.Session.{Document, Session, document_in, document_at, place_of, unchecked, idles, AreShort, update}
+use Rattle.sched_core.specs.Session.{Document, Session, document_in, document_at, place_of, unchecked, idles, AreShort, Held, set_documents, update}
+use Rattle.sched_core.specs.Done.{Came, take_kept, with_check, came}
+use Rattle.sched_core.specs.Coming.{Comes}
 use Rattle.sched_core.specs.Work.{spent_on, progress_since, granted, grant_at}
-use Rattle.sched_core.specs.Documents.{renewed, restarted, status_bodies, is_too_long, did_open, add, did_change, change_at, renew, renew_by, text_behind, Edits, refuse, did_close}
+use Rattle.sched_core.specs.Documents.{settle, renewed, restarted, status_bodies, is_too_long, did_open, add, did_change, change_at, renew, renew_by, text_behind, Edits, refuse, did_close}
 use Rattle.sched_core.specs.Bodies.{log_body}
 use Rattle.sched_core.specs.Messages.{notify_running, notify_grant}
 use Rattle.sched_core.specs.Plain.{step, IdlesLeft}
@@ -63,18 +66,18 @@ refused_made session why (Ok w) wrote stays = (wrote, stays, refl)
 refused_made session why (Err none) wrote stays = tt
 
 -- the refusal that edits give
-edits_err : (document known : Document) (changes : List Change) (given : Result Indexed DocStop) (found stop : DocStop) → document ≡ known → given ≡ Err found → found ≡ stop → Edits (text_behind changes document) document.encoding given → Edits (text_behind changes known) known.encoding (Err stop)
+edits_err : (document known : Document) (changes : List Change) (given : Result NewText DocStop) (found stop : DocStop) → document ≡ known → given ≡ Err found → found ≡ stop → Edits (text_behind changes document) document.encoding given → Edits (text_behind changes known) known.encoding (Err stop)
 edits_err document known changes given found stop same is kind told =
     subst (λ d. Edits (text_behind changes d) d.encoding (Err stop)) same (subst (λ s. Edits (text_behind changes document) document.encoding (Err s)) kind (subst (Edits (text_behind changes document) document.encoding) is told))
 
 -- a range is reversed
-pub reversed_made : (views : Views) (session : Session) (version : ℤ) (changes : List Change) (place : ℕ) (document : Document) (given : Result Indexed DocStop) (found : DocStop) (r : Result Written NoMem) → int_le version (document_at session place).version ≡ false → document ≡ document_at session place → given ≡ Err found → found ≡ RangeReversed → Edits (text_behind changes document) document.encoding given → IfOk r (λ w. w.bodies ≡ log_body (codes "range reversed") ∷ []) → IfOk r (λ w. w.exit ≡ None) → Makes (change_at views version changes place session) r session
+pub reversed_made : (views : Views) (session : Session) (version : ℤ) (changes : List Change) (place : ℕ) (document : Document) (given : Result NewText DocStop) (found : DocStop) (r : Result Written NoMem) → int_le version (document_at session place).version ≡ false → document ≡ document_at session place → given ≡ Err found → found ≡ RangeReversed → Edits (text_behind changes document) document.encoding given → IfOk r (λ w. w.bodies ≡ log_body (codes "range reversed") ∷ []) → IfOk r (λ w. w.exit ≡ None) → Makes (change_at views version changes place session) r session
 reversed_made views session version changes place document given found r greater same is kind told wrote stays =
     change_refused views session version changes place RangeReversed r session greater
     (edits_err document (document_at session place) changes given found RangeReversed same is kind told) (refused_made session (codes "range reversed") r wrote stays)
 
 -- a text is too long
-pub too_long_made : (views : Views) (session : Session) (version : ℤ) (changes : List Change) (place : ℕ) (document : Document) (given : Result Indexed DocStop) (found : DocStop) (r : Result Written NoMem) → int_le version (document_at session place).version ≡ false → document ≡ document_at session place → given ≡ Err found → found ≡ TooLong → Edits (text_behind changes document) document.encoding given → IfOk r (λ w. w.bodies ≡ log_body (codes "text too long") ∷ []) → IfOk r (λ w. w.exit ≡ None) → Makes (change_at views version changes place session) r session
+pub too_long_made : (views : Views) (session : Session) (version : ℤ) (changes : List Change) (place : ℕ) (document : Document) (given : Result NewText DocStop) (found : DocStop) (r : Result Written NoMem) → int_le version (document_at session place).version ≡ false → document ≡ document_at session place → given ≡ Err found → found ≡ TooLong → Edits (text_behind changes document) document.encoding given → IfOk r (λ w. w.bodies ≡ log_body (codes "text too long") ∷ []) → IfOk r (λ w. w.exit ≡ None) → Makes (change_at views version changes place session) r session
 too_long_made views session version changes place document given found r greater same is kind told wrote stays =
     change_refused views session version changes place TooLong r session greater
     (edits_err document (document_at session place) changes given found TooLong same is kind told) (refused_made session (codes "text too long") r wrote stays)
@@ -112,23 +115,22 @@ pub granted_made : (views : Views) (session : Session) (heard : Note) (uri : Lis
 granted_made views session heard uri units name r after e f made =
     same_step (notify_running views heard session) (notify_grant views name units session) r after (grant_is views session heard uri units name e f) made
 
-granted_is : (views : Views) (session : Session) (units place : ℕ) → is_ended (document_at session place).check ≡ false → grant_at views units place session ≡ granted views units place session
+granted_is : (views : Views) (session : Session) (units place : ℕ) → all_done (document_at session place).check ≡ false → grant_at views units place session ≡ granted views units place session
 granted_is views session units place left = rw left refl
 
 -- units for a document that is not ended
-pub grant_made : (views : Views) (session new : Session) (units place before : ℕ) (w : Written) (bodies : List (List ℕ)) → is_ended (document_at session place).check ≡ false → before ≡ (document_at session place).check.done → new ≡ update place (spent_on views units) session → w.bodies ≡ bodies → w.exit ≡ None → bodies ≡ progress_since views before (document_at new place) → Makes (grant_at views units place session) (Ok w) new
+pub grant_made : (views : Views) (session new : Session) (units place before : ℕ) (w : Written) (bodies : List (List ℕ)) → all_done (document_at session place).check ≡ false → before ≡ done (document_at session place).check → new ≡ came place (spent_on views units (document_at session place) session.held) session → w.bodies ≡ bodies → w.exit ≡ None → bodies ≡ progress_since views before (document_at new place) → Makes (grant_at views units place session) (Ok w) new
 grant_made views session new units place before w bodies left from put wrote stays told =
     same_step (grant_at views units place session) (granted views units place session) (Ok w) new (granted_is views session units place left)
-    (wrote ∙ told ∙ ap (λ n. progress_since views n (document_at new place)) from ∙ ap (λ s. progress_since views (document_at session place).check.done (document_at s place)) put, stays, put)
+    (wrote ∙ told ∙ ap (λ n. progress_since views n (document_at new place)) from ∙ ap (λ s. progress_since views (done (document_at session place).check) (document_at s place)) put, stays, put)
 
 restarted_is : (session : Session) (place : ℕ) (version : ℤ) (encoding : Encoding) (text : List ℕ) → encoding ≡ (document_at session place).encoding → update place (restarted version encoding text) session ≡ update place (renewed version text) session
 restarted_is session place version encoding text same = ap (λ e. update place (restarted version e text) session) same
 
 -- a document's new version
-pub renew_made : (views : Views) (session new : Session) (place : ℕ) (version : ℤ) (encoding : Encoding) (text given : List ℕ) (w : Written) (bodies : List (List ℕ)) → encoding ≡ (document_at session place).encoding → given ≡ text → new ≡ update place (restarted version encoding given) session → w.bodies ≡ bodies → w.exit ≡ None → bodies ≡ status_bodies views (document_at new place) → Makes (renew views place version text session) (Ok w) new
-renew_made views session new place version encoding text given w bodies same is restart wrote stays told =
-    let put : new ≡ update place (renewed version text) session = restart ∙ restarted_is session place version encoding given same ∙ ap (λ t. update place (renewed version t) session) is in
-    (wrote ∙ told ∙ ap (λ s. status_bodies views (document_at s place)) put, stays, put)
+pub renew_made : (views : Views) (session mid new : Session) (place : ℕ) (version : ℤ) (encoding : Encoding) (text : List ℕ) (r : Result Written NoMem) → encoding ≡ (document_at session place).encoding → mid ≡ update place (restarted version encoding text) session → Makes (settle views place mid) r new → Makes (renew views place version text session) r new
+renew_made views session mid new place version encoding text r same is made =
+    subst (λ s. Makes (settle views place s) r new) (is ∙ restarted_is session place version encoding text same) made
 
 -- the document at a place, as it is read
 pub seen_at : (items documents : List Document) (place : ℕ) (document : Document) → items ≡ documents → place < length documents → document ≡ get_or items place document → document ≡ document_in documents place
@@ -139,3 +141,24 @@ seen_at items documents place document same within read =
 pub idles_made : (views : Views) (session : Session) (e : Event) (r : Result Written NoMem) (after : Session) → AreShort session.documents → Makes (step views session e) r after → OnOk r (IdlesLeft e session after)
 idles_made views session e (Ok w) after short made = subst (λ s. IdlesLeft e session s) (sym made.2) (steps_end views session e short)
 idles_made views session e (Err none) after short made = tt
+
+-- a document more
+pub add_made : (views : Views) (session mid new : Session) (place : ℕ) (document : Document) (r : Result Written NoMem) → place ≡ length session.documents → mid ≡ set_documents (session.documents ++ document ∷ []) session → Makes (settle views place mid) r new → Makes (add views document session) r new
+add_made views session mid new place document r last is made =
+    subst (λ n. Makes (settle views n (set_documents (session.documents ++ document ∷ []) session)) r new) last (subst (λ s. Makes (settle views place s) r new) is made)
+
+-- the document at a place and what is held are these now
+abbrev pub put_at : ℕ → Document → Held → Session → Session
+put_at place document held session = record session { documents = slice_set session.documents place document; held = held }
+
+-- a call on the document at a place
+pub at_made : {A E : Type 0} (result : Result A E) (f : Document → Held → Came) (inside session : Session) (place : ℕ) (old document : Document) (held : Held) → inside ≡ session → old ≡ document_in inside.documents place → Comes (f old inside.held) old result document held → OnOk result (put_at place document held inside ≡ came place (f (document_at session place) session.held) session)
+at_made (Err error) f inside session place old document held same seen comes = tt
+at_made (Ok answer) f inside session place old document held same seen comes =
+    ap (λ d. put_at place d held inside) (comes.0 ∙ ap (λ o. with_check (f o inside.held).check o) seen)
+    ∙ ap (λ h. put_at place (with_check (f (document_at inside place) inside.held).check (document_at inside place)) h inside) (comes.1 ∙ ap (λ o. (f o inside.held).held) seen)
+    ∙ ap (λ s. came place (f (document_at s place) s.held) s) same
+
+pub at_work : {A E : Type 0} (result : Result A E) (f : Document → Held → Came) (inside session : Session) (place : ℕ) (old : Document) (before now : ℕ) → inside ≡ session → old ≡ document_in inside.documents place → Worked (f old inside.held).work before now result → Worked (f (document_at session place) session.held).work before now result
+at_work result f inside session place old before now same seen works =
+    subst (λ s. Worked (f (document_at s place) s.held).work before now result) same (subst (λ d. Worked (f d inside.held).work before now result) seen works)

@@ -1,87 +1,87 @@
 -- What units finish of a document.
-use Rattle.std.proofs.Common.{◌≡◌, ℕ, zero, suc, Ok, Result, ◌+◌, ◌-◌, ◌<◌, ◌≤◌, min, true, false, nat_le, if◌then◌else◌, arith, refl, ap, subst, sym, ◌∙◌}
-use Rattle.std.proofs.lemmas.Bool.{le-leb, lt-leb, leb-true, ltb-false}
-use Rattle.prover_iface.specs.Meanings.{Meanings}
-use Rattle.doc_check.specs.declared.incremental.Advance.{Advance}
-use Rattle.doc_check.specs.declared.incremental.Advance.TheVariants as advance
-use Rattle.doc_check.specs.Check.{views, count, cost_at}
-use Rattle.doc_check.specs.Incremental.{Progress, with_next, next_cost, cost_left, Advances}
-use Rattle.sched_core.specs.Session.{Document}
-use Rattle.sched_core.specs.Work.{Spent, after_one, spend, spend_on, with_done}
+use Rattle.std.proofs.Common.{◌≡◌, ℕ, zero, suc, ◌+◌, ◌-◌, ◌<◌, ◌≤◌, Bool, true, false, nat_le, if◌then◌else◌, List, length, length-append, ◌∷◌, [], arith, refl, ap, subst, sym, ◌∙◌}
+use Rattle.std.proofs.lemmas.Bool.{le-leb, lt-leb, leb-false, leb-true}
+use Rattle.doc_check.specs.Check.{count}
+use Rattle.doc_check.specs.Document.{Doc, done, all_done}
+use Rattle.sched_core.specs.Session.{Held}
+use Rattle.sched_core.specs.Done.{Came, came_to, take_kept, finish, after_work, run_taken, run_next, spend_taken, spend_most, spend}
+use Rattle.sched_core.proofs.Taken.{taken_text, taken_done}
 
-next_of : (cost : ℕ → ℕ) (left more done units : ℕ) → left ≡ suc more → nat_le (cost done) units ≡ true → spend cost left done units ≡ after_one (cost done) (spend cost more (done + 1) (units - cost done))
-next_of cost left more done units e h = rw (e, h) refl
+-- ---- one turn
 
-stop_of : (cost : ℕ → ℕ) (left more done units : ℕ) → left ≡ suc more → nat_le (cost done) units ≡ false → spend cost left done units ≡ record { done = done; work = units }
-stop_of cost left more done units e h = rw (e, h) refl
+module _ (cost : ℕ → ℕ) where
+  -- where all sentences are finished, no more is done
+  pub spent_ended : (most : ℕ) (d : Doc) (held : Held) (units : ℕ) → all_done (take_kept d held).check ≡ true → spend_most cost most d held units ≡ take_kept d held
+  spent_ended zero d held units h = refl
+  spent_ended (suc most) d held units h = rw h refl
 
-end_of : (cost : ℕ → ℕ) (left done units : ℕ) → left ≡ 0 → spend cost left done units ≡ record { done = done; work = 0 }
-end_of cost left done units e = rw e refl
+  pub left_here : (d : Doc) (held : Held) → all_done (take_kept d held).check ≡ false → done (take_kept d held).check < count d.text
+  left_here d held h =
+      let less : done (take_kept d held).check < count (take_kept d held).check.text = leb-false (count (take_kept d held).check.text) (done (take_kept d held).check) h in
+      omega (arith, less, ap count (taken_text d held.rows))
 
--- the next sentence is finished where its cost is at most the units
-pub spend_next : (cost : ℕ → ℕ) (n done units : ℕ) → done < n → cost done ≤ units → spend cost (n - done) done units ≡ after_one (cost done) (spend cost (n - (done + 1)) (done + 1) (units - cost done))
-spend_next cost n done units h fits = next_of cost (n - done) (n - (done + 1)) done units (omega (arith, h)) (le-leb (cost done) units fits)
+  pub finish_more : (c : Came) → done (finish c).check ≡ done c.check + 1
+  finish_more c = length-append c.check.numbers ((c.held.given + 1) ∷ [])
 
--- none is where it costs more
-pub spend_short : (cost : ℕ → ℕ) (n done units : ℕ) → done < n → units < cost done → spend cost (n - done) done units ≡ record { done = done; work = units }
-spend_short cost n done units h short = stop_of cost (n - done) (n - (done + 1)) done units (omega (arith, h)) (lt-leb (cost done) units short)
+  -- where the next one costs at most the units, it is finished, and what is left of them does the rest
+  pub record GoesOn (most : ℕ) (d : Doc) (held : Held) (units : ℕ) : Type 0 where
+    pub fewer : ℕ
+    pub room : count (finish (take_kept d held)).check.text - done (finish (take_kept d held)).check ≤ fewer
+    pub is : spend_most cost most d held units ≡ after_work (cost (done (take_kept d held).check)) (spend_most cost fewer (finish (take_kept d held)).check (finish (take_kept d held)).held (units - cost (done (take_kept d held).check)))
 
--- none is where no sentence is left
-pub spend_ended : (cost : ℕ → ℕ) (n done units : ℕ) → n ≤ done → spend cost (n - done) done units ≡ record { done = done; work = 0 }
-spend_ended cost n done units h = end_of cost (n - done) done units (omega (arith, h))
+  pub goes_on : (most : ℕ) (d : Doc) (held : Held) (units : ℕ) → count d.text - done d ≤ most → all_done (take_kept d held).check ≡ false → cost (done (take_kept d held).check) ≤ units → GoesOn most d held units
+  goes_on zero d held units room unended fits = absurd (omega (arith, room, left_here d held unended, taken_done d held.rows))
+  goes_on (suc fewer) d held units room unended fits = record {
+    fewer = fewer;
+    room = omega (arith, room, left_here d held unended, taken_done d held.rows, finish_more (take_kept d held), ap count (taken_text d held.rows));
+    is = rw (unended, le-leb (cost (done (take_kept d held).check)) units fits) refl;
+  }
 
--- units finish sentences, and begin none again
-pub spend_more : (cost : ℕ → ℕ) (left done units : ℕ) → done ≤ (spend cost left done units).done
-spend_more cost zero done units = omega arith
-spend_more cost (suc left) done units =
-    elim (nat_le (cost done) units) as (λ b. done ≤ (if b then after_one (cost done) (spend cost left (done + 1) (units - cost done)) else record { done = done; work = units }).done) [
-      | true ↦ omega (arith, spend_more cost left (done + 1) (units - cost done))
-      | false ↦ omega arith
-    ]
+  -- one that costs more is begun in vain
+  pub stops_there : (most : ℕ) (d : Doc) (held : Held) (units : ℕ) → count d.text - done d ≤ most → all_done (take_kept d held).check ≡ false → units < cost (done (take_kept d held).check) → spend_most cost most d held units ≡ after_work units (take_kept d held)
+  stops_there zero d held units room unended short = absurd (omega (arith, room, left_here d held unended, taken_done d held.rows))
+  stops_there (suc fewer) d held units room unended short = rw (unended, lt-leb (cost (done (take_kept d held).check)) units short) refl
 
--- a document of which units were spent: what is left of them does the rest
-pub record IsUnderWay {M : Type 0} (means : Meanings M) (units left : ℕ) (first now : Document) (before steps : ℕ) : Type 0 where
-  pub same : now ≡ with_done now.check.done first
-  pub done : (spend_on (views means) left now).done ≡ (spend_on (views means) units first).done
-  pub later : before ≤ steps
-  pub work : steps + (spend_on (views means) left now).work ≡ before + (spend_on (views means) units first).work
+-- ---- texts stay, and no sentence is taken back
 
-with_check : Progress → Document → Document
-with_check check document = record document { check = check }
+pub run_text : (cost : ℕ → ℕ) (d : Doc) (held : Held) → (run_next cost d held).check.text ≡ d.text
+run_text cost d held = by (all_done (take_kept d held).check) where
+  by : (b : Bool) → (if b then take_kept d held else after_work (cost (done (take_kept d held).check)) (finish (take_kept d held))).check.text ≡ d.text
+  by true = taken_text d held.rows
+  by false = taken_text d held.rows
 
--- what the next sentence costs, where there is one
-pub left_cost : {M : Type 0} (means : Meanings M) (d : Progress) → d.done < count d.text → cost_left means d ≡ next_cost means d
-left_cost means d h = rw (lt-leb (count d.text) d.done h) refl
+-- one more is finished at least where one was left
+pub run_more : (cost : ℕ → ℕ) (d : Doc) (held : Held) → done d < count d.text → done d < done (run_next cost d held).check
+run_more cost d held left = by (all_done (take_kept d held).check) refl where
+  by : (b : Bool) → all_done (take_kept d held).check ≡ b → done d < done (if b then take_kept d held else after_work (cost (done (take_kept d held).check)) (finish (take_kept d held))).check
+  by true h = omega (arith, left, leb-true (count (take_kept d held).check.text) (done (take_kept d held).check) h, ap count (taken_text d held.rows))
+  by false h = omega (arith, taken_done d held.rows, length-append (take_kept d held).check.numbers ((held.given + 1) ∷ []))
 
--- a sentence that was finished takes its cost off
-pub went_on : {M : Type 0} (means : Meanings M) (units left spent : ℕ) (first old new : Document) (answer : Advance) (before mid now : ℕ) → answer ≡ advance.Finished spent → Advances (next_cost means old.check) left old.check (Ok answer) new.check → new ≡ record old { check = new.check } → now ≡ mid + min (cost_left means old.check) left → IsUnderWay means units left first old before mid → IsUnderWay means units (left - spent) first new before now
-unfolding with_check
-went_on means units left spent first old new answer before mid now is advances same worked way = by (subst (λ a. Advances (next_cost means old.check) left old.check (Ok a) new.check) is advances) where
-  by : Advances (next_cost means old.check) left old.check (Ok (advance.Finished spent)) new.check → IsUnderWay means units (left - spent) first new before now
-  by a =
-      let cost : ℕ → ℕ = cost_at means old.check.text in
-      let fits : cost old.check.done ≤ left = omega (arith, a.1, a.2) in
-      let rest : Spent = spend cost (count old.check.text - (old.check.done + 1)) (old.check.done + 1) (left - cost old.check.done) in
-      let whole : spend_on (views means) left old ≡ after_one (cost old.check.done) rest = spend_next cost (count old.check.text) old.check.done left a.0 fits in
-      let now_is : spend_on (views means) (left - spent) new ≡ rest =
-      ap (λ k. spend (cost_at means k.text) (count k.text - k.done) k.done (left - spent)) a.3 ∙ ap (λ n. spend cost (count old.check.text - (old.check.done + 1)) (old.check.done + 1) (left - n)) a.1 in
-      let taken : cost_left means old.check ≡ cost old.check.done = left_cost means old.check a.0 in
-      let grown : new.check.done ≡ old.check.done + 1 = ap (λ k. k.done) a.3 in
-      record {
-        same = same ∙ ap (λ k. with_check k old) a.3 ∙ ap (λ d. with_check (with_next d.check) d) way.same ∙ ap (λ n. with_done n first) (sym grown);
-        done = ap (λ s. s.done) now_is ∙ sym (ap (λ s. s.done) whole) ∙ way.done;
-        later = omega (arith, way.later, worked);
-        work = omega (arith, worked, taken, fits, way.work, ap (λ s. s.work) whole, ap (λ s. s.work) now_is);
-      }
+module _ (cost : ℕ → ℕ) where
+  text_turn : (later : Doc → Held → ℕ → Came) → ((e : Doc) (h : Held) (left : ℕ) → (later e h left).check.text ≡ e.text) → (c : Came) (units : ℕ) → (spend_taken cost later c units).check.text ≡ c.check.text
+  text_turn later h c units = by (all_done c.check) (nat_le (cost (done c.check)) units) where
+    by : (b f : Bool) → (if b then c else (if f then after_work (cost (done c.check)) (later (finish c).check (finish c).held (units - cost (done c.check))) else after_work units c)).check.text ≡ c.check.text
+    by true f = refl
+    by false true = h (finish c).check (finish c).held (units - cost (done c.check))
+    by false false = refl
 
--- one that costs more than is left takes all of it, in vain
-pub stopped_there : {M : Type 0} (means : Meanings M) (units left : ℕ) (first old new : Document) (answer : Advance) (before mid now : ℕ) → answer ≡ advance.Interrupted → Advances (next_cost means old.check) left old.check (Ok answer) new.check → new ≡ record old { check = new.check } → now ≡ mid + min (cost_left means old.check) left → IsUnderWay means units left first old before mid → (new ≡ with_done (spend_on (views means) units first).done first) × (now ≡ before + (spend_on (views means) units first).work)
-unfolding with_check
-stopped_there means units left first old new answer before mid now is advances same worked way = by (subst (λ a. Advances (next_cost means old.check) left old.check (Ok a) new.check) is advances) where
-  by : Advances (next_cost means old.check) left old.check (Ok advance.Interrupted) new.check → (new ≡ with_done (spend_on (views means) units first).done first) × (now ≡ before + (spend_on (views means) units first).work)
-  by a =
-      let whole : spend_on (views means) left old ≡ record { done = old.check.done; work = left } = spend_short (cost_at means old.check.text) (count old.check.text) old.check.done left a.0 a.1 in
-      let taken : cost_left means old.check ≡ next_cost means old.check = left_cost means old.check a.0 in (
-        same ∙ ap (λ k. with_check k old) a.2 ∙ way.same ∙ ap (λ n. with_done n first) (sym (ap (λ s. s.done) whole) ∙ way.done),
-        omega (arith, worked, taken, a.1, way.work, ap (λ s. s.work) whole),
-      )
+  text_most : (most : ℕ) (d : Doc) (held : Held) (units : ℕ) → (spend_most cost most d held units).check.text ≡ d.text
+  text_most zero d held units = taken_text d held.rows
+  text_most (suc most) d held units = text_turn (λ e h left. spend_most cost most e h left) (λ e h left. text_most most e h left) (take_kept d held) units ∙ taken_text d held.rows
+
+  pub spend_text : (d : Doc) (held : Held) (units : ℕ) → (spend cost d held units).check.text ≡ d.text
+  spend_text d held units = text_most (count d.text - done d) d held units
+
+  done_turn : (later : Doc → Held → ℕ → Came) → ((e : Doc) (h : Held) (left : ℕ) → done e ≤ done (later e h left).check) → (c : Came) (units : ℕ) → done c.check ≤ done (spend_taken cost later c units).check
+  done_turn later h c units = by (all_done c.check) (nat_le (cost (done c.check)) units) where
+    by : (b f : Bool) → done c.check ≤ done (if b then c else (if f then after_work (cost (done c.check)) (later (finish c).check (finish c).held (units - cost (done c.check))) else after_work units c)).check
+    by true f = omega arith
+    by false true = omega (arith, h (finish c).check (finish c).held (units - cost (done c.check)), length-append c.check.numbers ((c.held.given + 1) ∷ []))
+    by false false = omega arith
+
+  done_most : (most : ℕ) (d : Doc) (held : Held) (units : ℕ) → done d ≤ done (spend_most cost most d held units).check
+  done_most zero d held units = taken_done d held.rows
+  done_most (suc most) d held units = omega (arith, taken_done d held.rows, done_turn (λ e h left. spend_most cost most e h left) (λ e h left. done_most most e h left) (take_kept d held) units)
+
+  pub spend_more : (d : Doc) (held : Held) (units : ℕ) → done d ≤ done (spend cost d held units).check
+  spend_more d held units = done_most (count d.text - done d) d held units

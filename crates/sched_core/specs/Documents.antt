@@ -8,11 +8,12 @@ use Rattle.utf16_doc.specs.declared.stops.DocStop.{DocStop}
 use Rattle.utf16_doc.specs.declared.stops.DocStop.TheVariants.{RangeReversed, TooLong, NoMem}
 use Rattle.utf16_doc.specs.Positions.{position_at}
 use Rattle.utf16_doc.specs.Edits.{Edited, changes_in}
-use Rattle.utf16_doc.specs.Indexed.{Document as Indexed}
 use Rattle.doc_check.specs.Check.{Views}
-use Rattle.doc_check.specs.Incremental.{progress, is_ended, next_span}
+use Rattle.doc_check.specs.Document.{all_done, next_span, changed}
+use Rattle.sched_core.specs.declared.open_document.NewText.{NewText}
 use Rattle.sched_core.specs.Step.{Step, stays, says, and_then}
 use Rattle.sched_core.specs.Session.{Document, Session, unchecked, document_at, place_of, set_documents, update}
+use Rattle.sched_core.specs.Done.{take_kept, came}
 use Rattle.sched_core.specs.Bodies.{progress_body, ended_body, diags_body, log_body}
 
 -- a notification is refused, and the client's log says why
@@ -42,11 +43,16 @@ progress_from document =
 
 -- how far a document is: ended, or with this left
 abbrev pub status_bodies : Views → Document → List (List ℕ)
-status_bodies views document = if is_ended document.check then end_pair views document else progress_from document ∷ []
+status_bodies views document = if all_done document.check then end_pair views document else progress_from document ∷ []
 
 -- the document at a place says how far it is
 abbrev pub tell : Views → ℕ → Session → Step Session
 tell views place session = says (status_bodies views (document_at session place)) session
+
+-- the document at a place takes the sentences that are held, and says how far it is
+abbrev pub settle : Views → ℕ → Session → Step Session
+settle views place session =
+    and_then (stays (came place (take_kept (document_at session place).check session.held) session)) (tell views place)
 
 -- refused where no document of this name is open; else by its place
 abbrev pub at_known : Option ℕ → (ℕ → Session → Step Session) → Session → Step Session
@@ -57,10 +63,10 @@ at_known (Some place) next session = next place session
 abbrev pub is_too_long : List ℕ → Bool
 is_too_long text = nat_lt TEXT_LIMIT (length text)
 
--- a document more
+-- a document more, which takes the sentences that are held
 abbrev pub add : Views → Document → Session → Step Session
 add views document session =
-    and_then (stays (set_documents (session.documents ++ document ∷ []) session)) (says (status_bodies views document))
+    and_then (stays (set_documents (session.documents ++ document ∷ []) session)) (settle views (length session.documents))
 
 -- a document is opened: not twice, no more than 64, and none that is too long
 abbrev pub did_open : Views → List ℕ → ℤ → List ℕ → Session → Step Session
@@ -80,22 +86,22 @@ abbrev pub text_behind : List Change → Document → Result (List ℕ) DocStop
 text_behind changes document = edited_text (changes_in document.encoding document.check.text changes)
 
 -- a call gives this text, with its characters counted so, unless memory runs out
-abbrev pub Edits : Result (List ℕ) DocStop → Encoding → Result Indexed DocStop → Type 0
-Edits text encoding (Ok doc) = (text ≡ Ok doc.text) × (doc.encoding ≡ encoding)
+abbrev pub Edits : Result (List ℕ) DocStop → Encoding → Result NewText DocStop → Type 0
+Edits text encoding (Ok new) = (text ≡ Ok new.doc.text) × (new.doc.encoding ≡ encoding)
 Edits text encoding (Err NoMem) = Unit {0}
 Edits text encoding (Err stop) = text ≡ Err stop
 
--- a new version, of which nothing is finished
+-- a new version: the sentences stay finished that both texts begin with
 abbrev pub renewed : ℤ → List ℕ → Document → Document
-renewed version text document = record document { version = version; check = progress text 0 }
+renewed version text document = record document { version = version; check = changed text document.check }
 
 -- the same with what its characters are counted in
 abbrev pub restarted : ℤ → Encoding → List ℕ → Document → Document
-restarted version encoding text document = record document { version = version; encoding = encoding; check = progress text 0 }
+restarted version encoding text document = record document { version = version; encoding = encoding; check = changed text document.check }
 
 -- a new version of the document at a place
 abbrev pub renew : Views → ℕ → ℤ → List ℕ → Session → Step Session
-renew views place version text session = and_then (stays (update place (renewed version text) session)) (tell views place)
+renew views place version text session = and_then (stays (update place (renewed version text) session)) (settle views place)
 
 -- a new version with this text, or a refusal that changes nothing; want of memory is none, so it never comes
 abbrev pub renew_by : Views → ℕ → ℤ → Result (List ℕ) DocStop → Session → Step Session
@@ -104,7 +110,7 @@ renew_by views place version (Err RangeReversed) session = refuse (codes "range 
 renew_by views place version (Err TooLong) session = refuse (codes "text too long") session
 renew_by views place version (Err NoMem) session = stays session
 
--- the document at a place is changed to a version, a greater one; nothing is finished of the new text
+-- the document at a place is changed to a version, a greater one
 abbrev pub change_at : Views → ℤ → List Change → ℕ → Session → Step Session
 change_at views version changes place session =
     if int_le version (document_at session place).version then refuse (codes "version not greater") session else

@@ -1,6 +1,8 @@
 pub mod Step
 pub mod Session
 pub mod Bodies
+pub mod Done
+pub mod Coming
 pub mod Documents
 pub mod Work
 pub mod Messages

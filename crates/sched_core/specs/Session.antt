@@ -1,37 +1,58 @@
--- What a plain session keeps: of each document the text and a count alone.
+-- What a plain session keeps: of each document the text and numbers, and which sentences were finished, as texts.
 use Rattle.std.specs.Prelude.{◌≡◌, ℕ, ◌-◌, ◌≤◌, pos, ℤ, Bool, Option, List, [], length, position, not, slice_index_or, slice_set, sum_by, All}
 use Rattle.std.specs.Str.{bytes_eq}
 use Rattle.base_core.specs.declared.limits.TheConstants.{TEXT_LIMIT}
 use Rattle.utf16_doc.specs.declared.encoding.Encoding.{Encoding}
 use Rattle.utf16_doc.specs.declared.encoding.Encoding.TheVariants.{Utf16}
+use Rattle.prover_iface.specs.Sentences.{Sentence}
 use Rattle.prover_iface.specs.Meanings.{Meanings}
+use Rattle.memo_table.specs.declared.slots.Entry.{Entry}
+use Rattle.memo_table.specs.Entries.{plain_entries}
+use Rattle.memo_table.specs.Table.{Table}
+use Rattle.memo_table.specs.Fits.{Fits}
 use Rattle.doc_check.specs.Check.{count}
-use Rattle.doc_check.specs.Incremental.{Progress, progress, is_ended}
+use Rattle.doc_check.specs.Document.{Doc, doc, done, all_done}
+use Rattle.doc_check.specs.Stands.{Follows}
 use Rattle.sched_core.specs.declared.phase.Phase.{Phase}
 use Rattle.sched_core.specs.declared.phase.Phase.TheVariants.{Fresh}
 
--- an open document: its name, the version that was last accepted, what its characters are counted in, the text that
--- was last accepted, and how many of the text's sentences are finished
+-- an open document: its name, the version that was last accepted, what its characters are counted in, and the text that
+-- was last accepted with the number of each of its finished sentences
 pub record Document : Type 0 where
   pub uri : List ℕ
   pub version : ℤ
   pub encoding : Encoding
-  pub check : Progress
+  pub check : Doc
 
 -- a document of which no sentence is finished
 abbrev pub unchecked : List ℕ → ℤ → Encoding → List ℕ → Document
-unchecked uri version encoding text = record { uri = uri; version = version; encoding = encoding; check = progress text 0 }
+unchecked uri version encoding text = record { uri = uri; version = version; encoding = encoding; check = doc text [] }
 
--- whether it is paced, its phase, what characters are counted in, and the open documents in the order of their opening
+-- which finished sentences are held: how many numbers were given to them, and the entries, the most recently used first.
+-- An entry is a number, the number that it was reached from, and a sentence; nothing is held of what came of it
+pub record Held : Type 0 where
+  pub given : ℕ
+  pub rows : List (ℕ × Entry (Unit {0}))
+
+abbrev pub held_rows : ℕ → List (ℕ × Entry (Unit {0})) → Held
+held_rows given rows = record { given = given; rows = rows }
+
+-- what a table holds, without what came of it
+abbrev pub held_in : {S : Type 0} → Table S → Held
+held_in t = held_rows t.given (plain_entries t.rows)
+
+-- whether it is paced, its phase, what characters are counted in, the open documents in the order of their opening, and
+-- the finished sentences that are held
 pub record Session : Type 0 where
   pub paced : Bool
   pub phase : Phase
   pub encoding : Encoding
   pub documents : List Document
+  pub held : Held
 
 -- where a session begins: UTF-16, until the client asks for another
 abbrev pub fresh : Bool → Session
-fresh paced = record { paced = paced; phase = Fresh; encoding = Utf16; documents = [] }
+fresh paced = record { paced = paced; phase = Fresh; encoding = Utf16; documents = []; held = held_rows 0 [] }
 
 -- the document at a place in the order of opening
 abbrev pub document_in : List Document → ℕ → Document
@@ -58,11 +79,11 @@ place_of uri documents = position (λ document. bytes_eq document.uri uri) docum
 
 -- the place of the document that was opened first among those that are not ended
 abbrev pub first_unended : List Document → Option ℕ
-first_unended documents = position (λ document. not (is_ended document.check)) documents
+first_unended documents = position (λ document. not (all_done document.check)) documents
 
 -- how many sentences are not finished
 abbrev pub unfinished : Document → ℕ
-unfinished document = count document.check.text - document.check.done
+unfinished document = count document.check.text - done document.check
 
 -- how many steps without a message a session can still take
 abbrev pub idles : Session → ℕ
@@ -72,7 +93,13 @@ idles session = sum_by unfinished session.documents
 abbrev pub AreShort : List Document → Type 0
 AreShort documents = All (λ document. length document.check.text ≤ TEXT_LIMIT) documents
 
--- what is kept beside a session: a prover's first state
-pub record Holds {M : Type 0} (means : Meanings M) (first : M) (documents : List Document) : Type 0 where
-  pub first_is : first ≡ means.first
+-- the documents are these now, and this is held
+abbrev pub set_held : List Document → Held → Session → Session
+set_held documents held session = record session { documents = documents; held = held }
+
+-- what is kept beside a session: a table in which the numbers of all documents stand for their sentences
+pub record Holds {S M : Type 0} (meaning : S → M) (means : Meanings M) (t : Table S) (documents : List Document) : Type 0 where
   pub short : AreShort documents
+  pub prefix : ℕ → List Sentence
+  pub fits : Fits meaning means prefix t
+  pub follow : All (λ document. Follows prefix t.given document.check) documents

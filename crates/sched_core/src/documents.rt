@@ -1,14 +1,14 @@
 //! Documents are opened, changed and closed.
-ghost use Rattle.std.specs.Prelude.{◌≡◌, ◌≤◌, ◌<◌, length};
+ghost use Rattle.std.specs.Prelude.{◌≡◌, ◌≤◌, ◌<◌, [], length, take};
 ghost use Rattle.base_core.specs.declared.limits.TheConstants.{TEXT_LIMIT};
 ghost use Rattle.doc_check.specs.Check.{views};
 ghost use Rattle.sched_core.specs.Step.{Makes};
 ghost use Rattle.sched_core.specs.Session.{document_at, unchecked};
-ghost use Rattle.sched_core.specs.Documents.{did_open, add, did_change, change_at, renew, did_close, close_at};
+ghost use Rattle.sched_core.specs.Documents.{settle, did_open, add, did_change, change_at, renew, did_close, close_at};
 
 use crate::Written;
 use crate::lookup::place_of;
-use crate::open_document::OpenDocument;
+use crate::open_document::{NewText, OpenDocument};
 use crate::replies::{answer, refuse, written};
 use crate::sched::Sched;
 use base_core::{ChangeList, DOCUMENT_LIMIT, NoMem, Text};
@@ -17,14 +17,24 @@ use std::alloc::Global;
 use utf16_doc::{Doc, DocStop};
 
 impl<P: Prover> Sched<P> {
-    /// A document more, which says how far it is.
+    /// The document at a place takes the sentences that are kept, and says how far it is.
+    fn settle(&mut self, alloc: Global, place: usize) -> Result<Written, NoMem>
+        requires { place < length self.old.documents }
+        ensures { Makes (settle (views P.means) place self.old) result self.new }
+    {
+        self.take_kept_at(alloc, place)?;
+        Ok(written(self.status_at(alloc, place)?))
+    }
+
+    /// A document more, which takes the sentences that are kept.
     fn add(&mut self, alloc: Global, document: OpenDocument<P>) -> Result<Written, NoMem>
-        requires { length document.check.text ≤ TEXT_LIMIT }
+        requires short { length document.check.text ≤ TEXT_LIMIT }
+        requires none { document.check.numbers ≡ [] }
         ensures { Makes (add (views P.means) document self.old) result self.new }
     {
-        let bodies = self.status_of(alloc, &document)?;
+        let place = self.documents().len();
         self.keep(document)?;
-        Ok(written(bodies))
+        self.settle(alloc, place)
     }
 
     /// A document of this text is opened.
@@ -67,22 +77,22 @@ impl<P: Prover> Sched<P> {
         }
     }
 
-    /// A new version of the document at a place, which says how far it is.
+    /// A new version of the document at a place, which takes the sentences that are kept.
     fn renew(
         &mut self,
         alloc: Global,
         place: usize,
         version: i32,
-        doc: Doc,
+        new: NewText,
     ) -> Result<Written, NoMem>
         requires within { place < length self.old.documents }
-        requires same { doc.encoding ≡ (document_at self.old place).encoding }
-        ensures { Makes (renew (views P.means) place version doc.text self.old) result self.new }
+        requires same { new.doc.encoding ≡ (document_at self.old place).encoding }
+        requires alike { let old = document_at self.old place in
+            take new.first_changed old.check.text ≡ take new.first_changed new.doc.text }
+        ensures { Makes (renew (views P.means) place version new.doc.text self.old) result self.new }
     {
-        let text = Text::copy(alloc, doc.text())?;
-        let check = self.begin(alloc, text)?;
-        self.restart(place, version, doc, check);
-        Ok(written(self.status_at(alloc, place)?))
+        self.restart(alloc, place, version, new)?;
+        self.settle(alloc, place)
     }
 
     /// The document at a place is changed to a version.
@@ -100,7 +110,7 @@ impl<P: Prover> Sched<P> {
             return refuse(alloc, "version not greater");
         }
         match self.document(place).edited(alloc, changes) {
-            Ok(doc) => self.renew(alloc, place, version, doc),
+            Ok(new) => self.renew(alloc, place, version, new),
             Err(DocStop::RangeReversed) => refuse(alloc, "range reversed"),
             Err(DocStop::TooLong) => refuse(alloc, "text too long"),
             Err(DocStop::NoMem) => Err(NoMem),

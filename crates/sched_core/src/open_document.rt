@@ -1,23 +1,36 @@
 //! An open document, with what is kept of its finished sentences.
-ghost use Rattle.std.specs.Prelude.{◌≡◌, ◌≤◌, true, false, IfOk, OnOk};
+ghost use Rattle.std.specs.Prelude.{◌≡◌, ◌≤◌, [], true, false, take, length, IfOk, OnOk, OnErr};
 ghost use Rattle.std.specs.Str.{bytes_eq};
 ghost use Rattle.prover_iface.specs.Exec.{Works, Worked};
 ghost use Rattle.doc_check.specs.Check.{views};
-ghost use Rattle.doc_check.specs.Incremental.{is_ended, next_cost, cost_left, Advances};
+ghost use Rattle.doc_check.specs.Document.{doc, done, all_done, taken};
+ghost use Rattle.doc_check.specs.Stands.{Stands, Advanced, cost_here};
 ghost use Rattle.sched_core.specs.Bodies.{ended_body as ended_bytes};
-ghost use Rattle.sched_core.specs.Documents.{text_behind, Edits, progress_from, diags_of, no_diags, status_bodies, end_pair};
-ghost use Rattle.sched_core.specs.Work.{progress_since, pair_at_end, spend_on, spent_on, with_next_done};
+ghost use Rattle.sched_core.specs.Session.{held_in};
+ghost use Rattle.sched_core.specs.Documents.{text_behind, Edits, restarted, progress_from, diags_of, no_diags, status_bodies, end_pair};
+ghost use Rattle.sched_core.specs.Done.{take_kept, with_check};
+ghost use Rattle.sched_core.specs.Coming.{Comes, Carries};
+ghost use Rattle.sched_core.specs.Work.{progress_since, pair_at_end, spent_on, ran_on};
 
 use crate::BytesList;
 use crate::bodies::{diags_body, ended_body, progress_body};
 use crate::replies::one_body;
-use base_core::{Bytes, ChangeList, NoMem, Steps, Text};
-use doc_check::{Advance, DocCheck};
+use base_core::{Bytes, COST_LIMIT, ChangeList, NoMem, Steps, Text};
+use doc_check::Advance;
+use doc_check::document::DocCheck;
+use memo_table::MemoTable;
 use prover_iface::Prover;
 use std::alloc::Global;
 use std::marker::Model;
 use std::sync::ledger::Ledger;
 use utf16_doc::{Doc, DocStop};
+
+/// The text of a new version, and the first byte at which it may differ from the one before.
+#[derive(Drop)]
+pub(crate) struct NewText {
+    pub(crate) doc: Doc,
+    pub(crate) first_changed: u32,
+}
 
 /// A document that the client opened.
 #[derive(Drop)]
@@ -68,42 +81,51 @@ impl<P: Prover> OpenDocument<P> {
 
     /// Whether all sentences are finished.
     pub(crate) fn is_ended(&self) -> bool
-        ensures { result ≡ is_ended self.now.check }
+        ensures { result ≡ all_done self.now.check }
     {
         self.check.is_ended()
     }
 
     /// The text behind changes.
-    pub(crate) fn edited(&self, alloc: Global, changes: &ChangeList) -> Result<Doc, DocStop>
-        ensures { Edits (text_behind changes.now self.now) self.now.encoding result }
+    pub(crate) fn edited(&self, alloc: Global, changes: &ChangeList) -> Result<NewText, DocStop>
+        ensures edits { Edits (text_behind changes.now self.now) self.now.encoding result }
+        ensures alike { IfOk result (λ new. take new.first_changed self.now.check.text ≡ take new.first_changed new.doc.text) }
     {
         let mut doc = self.doc.copy(alloc)?;
         match doc.apply(alloc, changes) {
-            Ok(_first) => Ok(doc),
+            Ok(first_changed) => Ok(NewText { doc, first_changed }),
             Err(stop) => Err(stop),
         }
     }
 
     /// How many sentences are finished.
     pub(crate) fn done(&self) -> usize
-        ensures { result ≡ self.now.check.done }
+        ensures { result ≡ done self.now.check }
     {
         self.check.done()
     }
 
-    /// A new version, of which nothing is finished.
-    pub(crate) fn replace(&mut self, version: i32, doc: Doc, check: DocCheck<P>)
-        requires { doc.text ≡ check.text }
-        ensures { self.new ≡ record { uri = self.old.uri; version = version; encoding = doc.encoding; check = check } }
+    /// A new version. The sentences stay finished that both texts begin with.
+    pub(crate) fn replace(
+        &mut self,
+        alloc: Global,
+        version: i32,
+        new: NewText,
+    ) -> Result<(), NoMem>
+        requires { take new.first_changed self.old.check.text ≡ take new.first_changed new.doc.text }
+        ensures new { OnOk result (self.new ≡ restarted version new.doc.encoding new.doc.text self.old) }
+        ensures unchanged { OnErr result (self.new ≡ self.old) }
     {
+        let text = Text::copy(alloc, new.doc.text())?;
+        self.check.change(alloc, text, new.first_changed)?;
         self.version = version;
-        self.doc = doc;
-        self.check = check;
+        self.doc = new.doc;
+        Ok(())
     }
 
     /// Progress from the first sentence that isn't finished on.
     fn progress(&self, alloc: Global) -> Result<Bytes, NoMem>
-        requires { is_ended self.now.check ≡ false }
+        requires { all_done self.now.check ≡ false }
         ensures { IfOk result (λ b. b ≡ progress_from self.now) }
     {
         let from = self.check.next_from();
@@ -119,7 +141,7 @@ impl<P: Prover> OpenDocument<P> {
 
     /// The diagnostics of the text.
     fn diags(&self, alloc: Global, prover: &P) -> Result<Bytes, NoMem>
-        requires { is_ended self.now.check ≡ true }
+        requires { all_done self.now.check ≡ true }
         ensures { IfOk result (λ b. b ≡ diags_of (views P.means) self.now) }
     {
         let diags = self.check.diags(alloc, prover)?;
@@ -139,52 +161,76 @@ impl<P: Prover> OpenDocument<P> {
         diags_body(alloc, self.uri.as_str(), self.version, &self.doc, &[])
     }
 
-    /// Finishes the next sentence, if there is one and it costs at most these units.
+    /// Takes the sentences that the table has kept.
+    pub(crate) fn take_kept(
+        &mut self,
+        alloc: Global,
+        prover: &P,
+        table: &mut MemoTable<P::State>,
+    ) -> Result<(), NoMem>
+        requires stands { Stands P.meaning P.means table.old self.old.check }
+        ensures comes { Comes (take_kept self.old.check (held_in table.old)) self.old result self.new (held_in table.new) }
+        ensures carries { Carries P.meaning P.means table.old table.new self.old.check self.new.check }
+    {
+        self.check.take_kept(alloc, prover, table)
+    }
+
+    /// Takes the sentences that the table has kept, and then finishes the next one, if there is one and it costs
+    /// at most these units.
     fn advance<C: Ledger>(
         &mut self,
         alloc: Global,
         prover: &P,
+        table: &mut MemoTable<P::State>,
         units: u32,
         steps: &mut Steps<C>,
     ) -> Result<Advance, NoMem>
-        ensures advances { Advances (next_cost P.means self.old.check) units self.old.check result self.new.check }
-        ensures same { self.new ≡ record self.old { check = self.new.check } }
-        ensures text { self.new.check.text ≡ self.old.check.text }
-        ensures work { Works (cost_left P.means self.old.check) units steps.old steps.new result }
+        requires stands { Stands P.meaning P.means table.old self.old.check }
+        ensures advances { Advanced P.meaning P.means units table.old self.old.check result table.new self.new.check }
+        ensures same { self.new ≡ with_check self.new.check self.old }
+        ensures carries { Carries P.meaning P.means table.old table.new self.old.check self.new.check }
+        ensures work { Works (cost_here P.means (taken self.old.check table.old.rows).doc) units steps.old steps.new result }
     {
-        self.check.advance(alloc, prover, units, steps)
+        self.check.advance(alloc, prover, table, units, steps)
     }
 
-    /// Finishes the next sentence.
+    /// Takes the sentences that the table has kept, and then finishes the next one, if there is one.
     pub(crate) fn run_next<C: Ledger>(
         &mut self,
         alloc: Global,
         prover: &P,
+        table: &mut MemoTable<P::State>,
         steps: &mut Steps<C>,
     ) -> Result<(), NoMem>
-        requires { is_ended self.old.check ≡ false }
-        ensures next { OnOk result (self.new ≡ with_next_done self.old) }
-        ensures text { self.new.check.text ≡ self.old.check.text }
-        ensures work { Worked (next_cost P.means self.old.check) steps.old steps.new result }
+        requires stands { Stands P.meaning P.means table.old self.old.check }
+        ensures comes { Comes (ran_on (views P.means) self.old (held_in table.old)) self.old result self.new (held_in table.new) }
+        ensures carries { Carries P.meaning P.means table.old table.new self.old.check self.new.check }
+        ensures work { Worked (ran_on (views P.means) self.old (held_in table.old)).work steps.old steps.new result }
     {
-        self.check.run_next(alloc, prover, steps)
+        match self.advance(alloc, prover, table, COST_LIMIT, steps)? {
+            Advance::Ended => Ok(()),
+            Advance::Finished { spent: _ } => Ok(()),
+            Advance::Interrupted => unreachable!(),
+        }
     }
 
-    /// Finishes sentences as long as these units suffice.
+    /// Finishes sentences as long as these units suffice. Those that the table has kept cost none.
     pub(crate) fn spend<C: Ledger>(
         &mut self,
         alloc: Global,
         prover: &P,
+        table: &mut MemoTable<P::State>,
         units: u32,
         steps: &mut Steps<C>,
     ) -> Result<(), NoMem>
-        ensures spent { OnOk result (self.new ≡ spent_on (views P.means) units self.old) }
-        ensures text { self.new.check.text ≡ self.old.check.text }
-        ensures work { Worked (spend_on (views P.means) units self.old).work steps.old steps.new result }
+        requires stands { Stands P.meaning P.means table.old self.old.check }
+        ensures comes { Comes (spent_on (views P.means) units self.old (held_in table.old)) self.old result self.new (held_in table.new) }
+        ensures carries { Carries P.meaning P.means table.old table.new self.old.check self.new.check }
+        ensures work { Worked (spent_on (views P.means) units self.old (held_in table.old)).work steps.old steps.new result }
     {
         let mut left = units;
         loop {
-            match self.advance(alloc, prover, left, steps)? {
+            match self.advance(alloc, prover, table, left, steps)? {
                 Advance::Finished { spent } => left -= spent,
                 Advance::Ended => return Ok(()),
                 Advance::Interrupted => return Ok(()),
@@ -194,7 +240,7 @@ impl<P: Prover> OpenDocument<P> {
 
     /// The end pair: nothing is left to be checked, and the diagnostics.
     fn end_pair(&self, alloc: Global, prover: &P) -> Result<BytesList, NoMem>
-        requires { is_ended self.now.check ≡ true }
+        requires { all_done self.now.check ≡ true }
         ensures { IfOk result (λ bodies. bodies ≡ end_pair (views P.means) self.now) }
     {
         let mut bodies = BytesList::new(alloc);

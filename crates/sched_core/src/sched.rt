@@ -1,33 +1,35 @@
 //! A session, and what is kept of the finished sentences of its documents.
-ghost use Rattle.std.specs.Prelude.{◌≡◌, ◌≤◌, ◌<◌, ◌∷◌, ◌++◌, [], false, length, remove, IfOk, OnOk};
+ghost use Rattle.std.specs.Prelude.{◌≡◌, ◌≤◌, ◌<◌, ◌∷◌, ◌++◌, [], false, length, remove, take, IfOk, OnOk};
 ghost use Rattle.base_core.specs.declared.limits.TheConstants.{TEXT_LIMIT};
 ghost use Rattle.prover_iface.specs.Exec.{Worked};
 ghost use Rattle.doc_check.specs.Check.{views};
-ghost use Rattle.doc_check.specs.Incremental.{progress, is_ended};
+ghost use Rattle.doc_check.specs.Document.{doc};
 ghost use Rattle.sched_core.specs.Session.{fresh, document_at, set_documents, set_phase, update, AreShort};
 ghost use Rattle.sched_core.specs.Messages.{set_running};
 ghost use Rattle.sched_core.specs.Documents.{restarted, status_bodies};
-ghost use Rattle.sched_core.specs.Work.{is_shut_down, all_ended, work_of, spent_on, cost_of_next, with_next_done};
+ghost use Rattle.sched_core.specs.Done.{take_kept, came};
+ghost use Rattle.sched_core.specs.Work.{is_shut_down, all_ended, spent_on, ran_on};
 ghost use Rattle.sched_core.specs.Work.{progress_since, pair_at_end};
 
 use crate::BytesList;
 use crate::lookup::first_unended;
-use crate::open_document::OpenDocument;
+use crate::open_document::{NewText, OpenDocument};
 use crate::phase::Phase;
 use base_core::{NoMem, Steps, Text};
-use doc_check::DocCheck;
+use doc_check::document::DocCheck;
+use memo_table::MemoTable;
 use prover_iface::Prover;
 use std::alloc::Global;
 use std::marker::Model;
 use std::sync::ledger::Ledger;
-use utf16_doc::{Doc, Encoding};
+use utf16_doc::Encoding;
 
 /// A session, and what is kept of the finished sentences of its documents.
 #[derive(Drop)]
 pub struct Sched<P: Prover> {
     prover: P,
-    /// The state before any sentence.
-    first: P::State,
+    /// What came of finished sentences, of all documents.
+    table: MemoTable<P::State>,
     paced: bool,
     phase: Phase,
     encoding: Encoding,
@@ -36,13 +38,19 @@ pub struct Sched<P: Prover> {
 }
 
 impl<P: Prover> Model for Sched<P> {
-    ghost use Rattle.sched_core.specs.Session.{Session, Holds};
+    ghost use Rattle.sched_core.specs.Session.{Session, Holds, held_in};
 
     ghost Value = { Session };
 
-    ghost view = { λ s. record { paced = s.paced; phase = s.phase; encoding = s.encoding; documents = s.documents.items } };
+    ghost view = { λ s. record {
+        paced = s.paced;
+        phase = s.phase;
+        encoding = s.encoding;
+        documents = s.documents.items;
+        held = held_in s.table;
+    } };
 
-    ghost invariant = { λ s. Holds P.means (P.meaning s.first) s.documents.items };
+    ghost invariant = { λ s. Holds P.meaning P.means s.table s.documents.items };
 }
 
 fn is_shut_down(phase: Phase) -> bool
@@ -64,9 +72,10 @@ impl<P: Prover> Sched<P> {
         ensures work { Worked P.means.first_cost steps.old steps.new result }
     {
         let first = prover.initial(alloc, steps)?;
+        let table = MemoTable::new(alloc, first)?;
         Ok(Sched {
             prover,
-            first,
+            table,
             paced,
             phase: Phase::Fresh,
             encoding: Encoding::Utf16,
@@ -138,14 +147,15 @@ impl<P: Prover> Sched<P> {
     /// A text of which no sentence is finished.
     pub(crate) fn begin(&self, alloc: Global, text: Text) -> Result<DocCheck<P>, NoMem>
         requires { length text ≤ TEXT_LIMIT }
-        ensures { IfOk result (λ check. check ≡ progress text 0) }
+        ensures { IfOk result (λ check. check ≡ doc text []) }
     {
-        DocCheck::new(alloc, text, &self.prover, &self.first)
+        DocCheck::begun(alloc, text, &self.prover, self.table.root())
     }
 
-    /// A document more.
+    /// A document more, of which no sentence is finished.
     pub(crate) fn keep(&mut self, document: OpenDocument<P>) -> Result<(), NoMem>
-        requires { length document.check.text ≤ TEXT_LIMIT }
+        requires short { length document.check.text ≤ TEXT_LIMIT }
+        requires none { document.check.numbers ≡ [] }
         ensures { OnOk result (self.new ≡ set_documents (self.old.documents ++ document ∷ []) self.old) }
     {
         self.documents.push(document)?;
@@ -153,14 +163,29 @@ impl<P: Prover> Sched<P> {
     }
 
     /// A new version of the document at a place.
-    pub(crate) fn restart(&mut self, place: usize, version: i32, doc: Doc, check: DocCheck<P>)
+    pub(crate) fn restart(
+        &mut self,
+        alloc: Global,
+        place: usize,
+        version: i32,
+        new: NewText,
+    ) -> Result<(), NoMem>
         requires within { place < length self.old.documents }
-        requires same { doc.text ≡ check.text }
-        requires none { check.done ≡ 0 }
-        requires short { length check.text ≤ TEXT_LIMIT }
-        ensures { self.new ≡ update place (restarted version doc.encoding check.text) self.old }
+        requires alike { let old = document_at self.old place in
+            take new.first_changed old.check.text ≡ take new.first_changed new.doc.text }
+        ensures { OnOk result (self.new ≡ update place (restarted version new.doc.encoding new.doc.text) self.old) }
     {
-        self.documents[place].replace(version, doc, check);
+        let _text = new.doc.text();
+        self.documents[place].replace(alloc, version, new)
+    }
+
+    /// The document at a place takes the sentences that the table has kept.
+    pub(crate) fn take_kept_at(&mut self, alloc: Global, place: usize) -> Result<(), NoMem>
+        requires { place < length self.old.documents }
+        ensures { let taken = take_kept (document_at self.old place).check self.old.held in
+            OnOk result (self.new ≡ came place taken self.old) }
+    {
+        self.documents[place].take_kept(alloc, &self.prover, &mut self.table)
     }
 
     /// One document less.
@@ -180,25 +205,29 @@ impl<P: Prover> Sched<P> {
         steps: &mut Steps<C>,
     ) -> Result<(), NoMem>
         requires { place < length self.old.documents }
-        ensures spent { OnOk result (self.new ≡ update place (spent_on (views P.means) units) self.old) }
-        ensures work { Worked (work_of (views P.means) units (document_at self.old place)) steps.old steps.new result }
+        ensures spent { let spent = spent_on (views P.means) units (document_at self.old place) self.old.held in
+            OnOk result (self.new ≡ came place spent self.old) }
+        ensures work { let spent = spent_on (views P.means) units (document_at self.old place) self.old.held in
+            Worked spent.work steps.old steps.new result }
     {
-        self.documents[place].spend(alloc, &self.prover, units, steps)
+        self.documents[place].spend(alloc, &self.prover, &mut self.table, units, steps)
     }
 
-    /// The next sentence of the document at a place.
+    /// The document at a place takes the sentences that the table has kept. Then its next sentence is finished, if
+    /// there is one.
     pub(crate) fn run_next_at<C: Ledger>(
         &mut self,
         alloc: Global,
         place: usize,
         steps: &mut Steps<C>,
     ) -> Result<(), NoMem>
-        requires within { place < length self.old.documents }
-        requires unended { is_ended (document_at self.old place).check ≡ false }
-        ensures next { OnOk result (self.new ≡ update place with_next_done self.old) }
-        ensures work { Worked (cost_of_next (views P.means) (document_at self.old place)) steps.old steps.new result }
+        requires { place < length self.old.documents }
+        ensures ran { let ran = ran_on (views P.means) (document_at self.old place) self.old.held in
+            OnOk result (self.new ≡ came place ran self.old) }
+        ensures work { let ran = ran_on (views P.means) (document_at self.old place) self.old.held in
+            Worked ran.work steps.old steps.new result }
     {
-        self.documents[place].run_next(alloc, &self.prover, steps)
+        self.documents[place].run_next(alloc, &self.prover, &mut self.table, steps)
     }
 
     /// What the document at a place says of how far it is.
@@ -229,16 +258,5 @@ impl<P: Prover> Sched<P> {
         ensures { IfOk result (λ bodies. bodies ≡ pair_at_end (views P.means) (document_at self.now place)) }
     {
         self.document(place).pair_at_end(alloc, &self.prover)
-    }
-
-    /// What a document says that is not yet open.
-    pub(crate) fn status_of(
-        &self,
-        alloc: Global,
-        document: &OpenDocument<P>,
-    ) -> Result<BytesList, NoMem>
-        ensures { IfOk result (λ bodies. bodies ≡ status_bodies (views P.means) document.now) }
-    {
-        document.status(alloc, &self.prover)
     }
 }

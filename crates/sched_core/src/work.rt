@@ -1,10 +1,8 @@
 //! Sentences of documents are finished: where units are granted, or while nothing comes.
-ghost use Rattle.std.specs.Prelude.{◌≡◌, ◌<◌, false, length};
+ghost use Rattle.std.specs.Prelude.{◌≡◌, ◌<◌, length};
 ghost use Rattle.prover_iface.specs.Exec.{Worked};
 ghost use Rattle.doc_check.specs.Check.{views};
-ghost use Rattle.doc_check.specs.Incremental.{is_ended};
 ghost use Rattle.sched_core.specs.Step.{Makes};
-ghost use Rattle.sched_core.specs.Session.{document_at};
 ghost use Rattle.sched_core.specs.Work.{grant, grant_at, run_at, idle};
 
 use crate::Written;
@@ -54,15 +52,14 @@ impl<P: Prover> Sched<P> {
         }
     }
 
-    /// The next sentence of the document at a place is finished.
+    /// The document at a place takes the sentences that are kept. Then its next sentence is finished, if there is one.
     fn run_at<C: Ledger>(
         &mut self,
         alloc: Global,
         place: usize,
         steps: &mut Steps<C>,
     ) -> Result<Written, NoMem>
-        requires within { place < length self.old.documents }
-        requires unended { is_ended (document_at self.old place).check ≡ false }
+        requires { place < length self.old.documents }
         ensures made { Makes (run_at (views P.means) place self.old) result self.new }
         ensures work { Worked (run_at (views P.means) place self.old).work steps.old steps.new result }
     {

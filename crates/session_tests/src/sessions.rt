@@ -35,7 +35,7 @@ const CHANGE: &str =
     "{\"jsonrpc\":\"2.0\",\"method\":\"textDocument/didChange\",\"params\":{\"textDocument\":{\"uri\":\"file:///a.v\",\"version\":2},\"contentChanges\":[{\"text\":\"Axiom A : Prop. Axiom A : Set.\"}]}}";
 
 const CHANGED: &str =
-    "{\"jsonrpc\":\"2.0\",\"method\":\"$/coq/fileProgress\",\"params\":{\"processing\":[{\"kind\":1,\"range\":{\"end\":{\"character\":30,\"line\":0},\"start\":{\"character\":0,\"line\":0}}}],\"textDocument\":{\"uri\":\"file:///a.v\",\"version\":2}}}";
+    "{\"jsonrpc\":\"2.0\",\"method\":\"$/coq/fileProgress\",\"params\":{\"processing\":[{\"kind\":1,\"range\":{\"end\":{\"character\":30,\"line\":0},\"start\":{\"character\":16,\"line\":0}}}],\"textDocument\":{\"uri\":\"file:///a.v\",\"version\":2}}}";
 
 const ENDED_AGAIN: &str =
     "{\"jsonrpc\":\"2.0\",\"method\":\"$/coq/fileProgress\",\"params\":{\"processing\":[],\"textDocument\":{\"uri\":\"file:///a.v\",\"version\":2}}}";
@@ -249,7 +249,7 @@ const UNPACED_ROWS: [Row; 17] = [
         &[INITIALIZED, PROGRESS, ENDED, CLEAN],
     ),
     (
-        &[INITIALIZE, OPEN, "idle", CHANGE, "idle", "idle"],
+        &[INITIALIZE, OPEN, "idle", CHANGE, "idle"],
         6,
         &[
             INITIALIZED,

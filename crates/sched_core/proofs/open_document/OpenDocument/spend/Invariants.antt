@@ -1,16 +1,11 @@
-use Rattle.std.proofs.Common.{◌≡◌, ◌≤◌, ◌+◌, ◌-◌}
-use Rattle.doc_check.specs.Check.{views, count}
-use Rattle.sched_core.specs.Work.{spend_on, with_done}
+use Rattle.std.proofs.Common.{◌-◌}
+use Rattle.doc_check.specs.Check.{count}
+use Rattle.doc_check.specs.Document.{done}
+use Rattle.sched_core.proofs.Spending.{IsUnderWay}
 use Rattle.sched_core.proofs.open_document.OpenDocument.spend.Given as goal
 
 abbrev pub invariant-loop-spent : goal.invariant-loop-spent
-invariant-loop-spent g l = let v = views g.P.Prover.means in record {
-  same : l.self ≡ with_done l.self.check.done l.fn.self;
-  text : l.self.check.text ≡ l.fn.self.check.text;
-  done : (spend_on v l.left l.self).done ≡ (spend_on v l.units l.fn.self).done;
-  later : l.fn.steps ≤ l.steps;
-  work : l.steps + (spend_on v l.left l.self).work ≡ l.fn.steps + (spend_on v l.units l.fn.self).work;
-}
+invariant-loop-spent g l = IsUnderWay g.P.Prover.meaning g.P.Prover.means l.units l.left l.fn.table l.table l.fn.self l.self l.fn.steps l.steps
 
 abbrev pub decreases-loop-spent : goal.decreases-loop-spent
-decreases-loop-spent g l = count l.self.check.text - l.self.check.done
+decreases-loop-spent g l = count l.self.check.text - done l.self.check

@@ -5,7 +5,7 @@ use Rattle.sched_core.proofs.sched.Sched.change_at.Goals as goal
 
 pub returns-in-Ok : goal.returns-in-Ok
 returns-in-Ok g c =
-    change_made (views g.P.Prover.means) c.args.self.now c.args.version _ c.args.changes.now c.args.place c.in-Ok.doc.text c.renew.result c.renew.new.self
+    change_made (views g.P.Prover.means) c.args.self.now c.args.version _ c.args.changes.now c.args.place c.in-Ok.new.doc.text c.renew.result c.renew.new.self
     (search rules) (search rules) (search rules) c.renew.ensures
 
 pub returns-in-Err-RangeReversed : goal.returns-in-Err-RangeReversed

@@ -5,5 +5,5 @@ use Rattle.sched_core.proofs.sched.Sched.renew.Goals as goal
 
 pub returns : goal.returns
 returns g c =
-    renew_made (views g.P.Prover.means) c.args.self.now c.restart.new.self c.args.place c.args.version c.args.doc.encoding c.args.doc.text c.in_ok-check.check.text c.written.result c.in_ok-status_at.field-0
-    c.requires.same (search rules) (search rules) c.written.ensures.bodies c.written.ensures.exit c.in_ok-status_at.ensures
+    renew_made (views g.P.Prover.means) c.args.self.now c.restart.new.self c.settle.new.self c.args.place c.args.version c.args.new.doc.encoding c.args.new.doc.text c.settle.result
+    c.requires.same (search rules) c.settle.ensures
