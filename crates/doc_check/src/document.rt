@@ -15,8 +15,8 @@ ghost use Rattle.doc_check.specs.Document.{doc, parts, state_at, done, all_done,
 ghost use Rattle.doc_check.specs.Stands.{Follows, Stands, Moved, IsHeld, IsKept, Runs, Advanced, cost_here, TookOne};
 
 use crate::finished::{Finished, copy_of, from_kept};
-use crate::reporting::report_diags;
 use crate::incremental::next_from;
+use crate::reporting::report_diags;
 use crate::{AbsDiagList, Advance, Report};
 use base_core::{NoMem, Steps, Text};
 use memo_table::{Kept, Key, MemoTable};
@@ -390,12 +390,7 @@ impl<P: Prover> DocCheck<P> {
 
     /// Another text, which differs from this one at no byte before the first that was changed. The sentences
     /// stay finished that both texts begin with.
-    pub fn change(
-        &mut self,
-        alloc: Global,
-        text: Text,
-        first_changed: u32,
-    ) -> Result<(), NoMem>
+    pub fn change(&mut self, alloc: Global, text: Text, first_changed: u32) -> Result<(), NoMem>
         requires short { length text ≤ TEXT_LIMIT }
         requires same { take first_changed self.old.text ≡ take first_changed text }
         ensures new { OnOk result (self.new ≡ changed text self.old) }

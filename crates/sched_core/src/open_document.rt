@@ -106,12 +106,7 @@ impl<P: Prover> OpenDocument<P> {
     }
 
     /// A new version. The sentences stay finished that both texts begin with.
-    pub(crate) fn replace(
-        &mut self,
-        alloc: Global,
-        version: i32,
-        new: NewText,
-    ) -> Result<(), NoMem>
+    pub(crate) fn replace(&mut self, alloc: Global, version: i32, new: NewText) -> Result<(), NoMem>
         requires { take new.first_changed self.old.check.text ≡ take new.first_changed new.doc.text }
         ensures new { OnOk result (self.new ≡ restarted version new.doc.encoding new.doc.text self.old) }
         ensures unchanged { OnErr result (self.new ≡ self.old) }

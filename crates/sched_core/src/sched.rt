@@ -43,11 +43,11 @@ impl<P: Prover> Model for Sched<P> {
     ghost Value = { Session };
 
     ghost view = { λ s. record {
-        paced = s.paced;
-        phase = s.phase;
-        encoding = s.encoding;
-        documents = s.documents.items;
-        held = held_in s.table;
+      paced = s.paced;
+      phase = s.phase;
+      encoding = s.encoding;
+      documents = s.documents.items;
+      held = held_in s.table;
     } };
 
     ghost invariant = { λ s. Holds P.meaning P.means s.table s.documents.items };
