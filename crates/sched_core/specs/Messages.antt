@@ -84,8 +84,8 @@ notify_exit exit _ session = stays session
 abbrev pub notify_grant : Views → List ℕ → ℕ → Session → Step Session
 notify_grant views uri units session = if session.paced then grant views uri units session else stays session
 
--- a notification between `initialize` and `shutdown`; no request waits, so that there is nothing to cancel, and
--- nothing is held that could be trimmed
+-- a notification between `initialize` and `shutdown`; no request waits, so that there is nothing to cancel, and trimming
+-- is not built
 abbrev pub notify_running : Views → Note → Session → Step Session
 notify_running views note.Initialized session = stays session
 notify_running views note.Exit session = leaves Early session

@@ -12,10 +12,10 @@ pub returns-in-Err-RangeReversed : goal.returns-in-Err-RangeReversed
 returns-in-Err-RangeReversed g c =
     let told = c.in-Err-RangeReversed in
     reversed_made (views g.P.Prover.means) c.args.self.now c.args.version c.args.changes.now c.args.place c.document-2.result.now c.edited.result told.field-0 c.refuse-in-Err-RangeReversed.result
-    (search rules) c.document-2.ensures told.is told.field-0-is c.edited.ensures c.refuse-in-Err-RangeReversed.ensures.bodies c.refuse-in-Err-RangeReversed.ensures.exit
+    (search rules) c.document-2.ensures told.is told.field-0-is c.edited.ensures.edits c.refuse-in-Err-RangeReversed.ensures.bodies c.refuse-in-Err-RangeReversed.ensures.exit
 
 pub returns-in-Err-TooLong : goal.returns-in-Err-TooLong
 returns-in-Err-TooLong g c =
     let told = c.in-Err-TooLong in
     too_long_made (views g.P.Prover.means) c.args.self.now c.args.version c.args.changes.now c.args.place c.document-2.result.now c.edited.result told.field-0 c.refuse-in-Err-TooLong.result
-    (search rules) c.document-2.ensures told.is told.field-0-is c.edited.ensures c.refuse-in-Err-TooLong.ensures.bodies c.refuse-in-Err-TooLong.ensures.exit
+    (search rules) c.document-2.ensures told.is told.field-0-is c.edited.ensures.edits c.refuse-in-Err-TooLong.ensures.bodies c.refuse-in-Err-TooLong.ensures.exit

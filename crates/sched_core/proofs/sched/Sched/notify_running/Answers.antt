@@ -1,8 +1,14 @@
 use Rattle.std.proofs.Common.{rules, subst, sym}
 use Rattle.prover_iface.specs.Exec.{Worked}
 use Rattle.doc_check.specs.Check.{views}
-use Rattle.sched_core.proofs.Made.{did_change_made, did_close_made, granted_made, grant_is}
+use Rattle.sched_core.proofs.Made.{did_open_made, did_change_made, did_close_made, granted_made, grant_is}
 use Rattle.sched_core.proofs.sched.Sched.notify_running.Goals as goal
+
+pub returns-in-DidOpen-clause-made : goal.returns-in-DidOpen-clause-made
+returns-in-DidOpen-clause-made g c =
+    let told = c.in-DidOpen in
+    did_open_made (views g.P.Prover.means) c.args.self.now c.args.note told.uri told.version told.text told.uri _ told.text c.open.result c.open.new.self
+    told.is (search rules) (search rules) (search rules) c.open.ensures
 
 pub returns-in-DidChange-clause-made : goal.returns-in-DidChange-clause-made
 returns-in-DidChange-clause-made g c =
