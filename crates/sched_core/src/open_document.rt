@@ -198,7 +198,8 @@ impl<P: Prover> OpenDocument<P> {
         steps: &mut Steps<C>,
     ) -> Result<(), NoMem>
         requires stands { Stands P.meaning P.means table.old self.old.check }
-        ensures comes { Comes (ran_on (views P.means) self.old (held_in table.old)) self.old result self.new (held_in table.new) }
+        ensures comes { let ran = ran_on (views P.means) self.old (held_in table.old) in
+            Comes ran self.old result self.new (held_in table.new) }
         ensures carries { Carries P.meaning P.means table.old table.new self.old.check self.new.check }
         ensures work { Worked (ran_on (views P.means) self.old (held_in table.old)).work steps.old steps.new result }
     {
@@ -219,7 +220,8 @@ impl<P: Prover> OpenDocument<P> {
         steps: &mut Steps<C>,
     ) -> Result<(), NoMem>
         requires stands { Stands P.meaning P.means table.old self.old.check }
-        ensures comes { Comes (spent_on (views P.means) units self.old (held_in table.old)) self.old result self.new (held_in table.new) }
+        ensures comes { let spent = spent_on (views P.means) units self.old (held_in table.old) in
+            Comes spent self.old result self.new (held_in table.new) }
         ensures carries { Carries P.meaning P.means table.old table.new self.old.check self.new.check }
         ensures work { Worked (spent_on (views P.means) units self.old (held_in table.old)).work steps.old steps.new result }
     {
