@@ -4,13 +4,12 @@ ghost use Rattle.core_term.specs.Tree.{same_sort as is_one_sort};
 ghost use Rattle.core_term.specs.Answers.{within_limits, Gives};
 ghost use Rattle.cic_rules.specs.Eliminators.{is_in_prop as is_proposition, is_prop as is_prop_tree};
 ghost use Rattle.term_spine.specs.Spine.{end_of_products};
-ghost use Rattle.move_elim.specs.Claims.{over_value as value_over, sort_rank as rank_of, eliminates as eliminates_into, eliminator_into as the_eliminator};
+ghost use Rattle.move_elim.specs.Claims.{sort_rank as rank_of, eliminates as eliminates_into, eliminator_into as the_eliminator};
 ghost use Rattle.move_elim.specs.Generalised.{under_value as value_under};
 
 use base_core::{NumberList, Text};
 use cic_rules::{EntryKind, GlobalEnv, InductiveDecl};
 use core_term::{Node, Sort, Term, TermStop};
-use fresh_names::initial;
 use std::alloc::Global;
 
 /// The goal as a function of the indices, and of the value where the type is no proposition.
@@ -51,24 +50,6 @@ pub(crate) fn is_in_prop(d: &InductiveDecl) -> bool
     ensures { result ≡ is_proposition d.now }
 {
     ends_in_prop(&d.arity)
-}
-
-/// The motive over the value, whose type is the family.
-#[tactic(auto, using(crate::proofs::SiteLaws::term_is_within))]
-pub(crate) fn over_value(
-    alloc: Global,
-    d: &InductiveDecl,
-    family: Term,
-    body: Term,
-) -> Result<Term, TermStop>
-    ensures { Gives result (within_limits (value_over d.now family body)) }
-{
-    if is_in_prop(d) {
-        let _depth = body.depth();
-        return Ok(body);
-    }
-    let name = initial(alloc, &d.name, 120)?;
-    Term::lam(alloc, name, family, body)
 }
 
 /// A type under the binder of a hypothesis: a product, or a let for one that has a definition.

@@ -8,8 +8,10 @@ mod elimination;
 mod generalised;
 mod introduction;
 mod laws;
+mod moves;
 mod refusals;
 mod sites;
 mod subjects;
 
 pub use laws::law_of_fuel;
+pub use moves::run_elim;
