@@ -102,12 +102,15 @@ module _ (induction : Bool) (env : List Slot) (c : Claim) where
   abbrev pub name_of_argument : Walk → List Given → List ℕ → Tree → List ℕ
   name_of_argument w given n a = next_name given (automatic env w.names n (placed w.site a))
 
-  -- .. and of its hypothesis, and then the rest
+  -- the rest behind the hypothesis of an argument, where that is recursive
+  abbrev pub behind_hypothesis : Bool → Walk → Walk → List Given → List ℕ → Tree → (Walk → Step (Partial Goal)) → Step (Partial Goal)
+  behind_hypothesis false w inner given n a rest = rest inner
+  behind_hypothesis true w inner given n a rest =
+      under_hypothesis inner (name_of_hypothesis induction inner.names (behind_next given) n) (hypothesis c (with_binder w.site) (Var 0) a) rest
+
+  -- an argument, and its hypothesis, and then the rest
   abbrev pub behind_argument : Bool → Walk → List Given → List ℕ → Tree → (Walk → Step (Partial Goal)) → Step (Partial Goal)
-  behind_argument false w given n a rest = under_argument w n a rest
-  behind_argument true w given n a rest =
-      under_argument w n a
-      (λ inner. under_hypothesis inner (name_of_hypothesis induction inner.names (behind_next given) n) (hypothesis c (with_binder w.site) (Var 0) a) rest)
+  behind_argument recursive w given n a rest = under_argument w n a (λ inner. behind_hypothesis recursive w inner given n a rest)
 
   -- a case from an argument on, by which of the arguments are recursive
   abbrev pub case_from : Walk → List Given → List Bool → Tree → Step (Partial Goal)

@@ -15,6 +15,9 @@ use std::alloc::Global;
 /// What `destruct` or `induction` gives for a goal: a sketch whose holes are the new goals, one for each constructor of
 /// the hypothesis' inductive type. It takes the units of the reduction of the hypothesis' type and of the goal's
 /// sort. A move of another kind is refused.
+///
+/// Its body isn't built yet: the cases of the constructors are missing, and each call answers want of memory. Nothing
+/// may call it before it has one.
 pub fn run_elim<J: Judge>(
     judge: &J,
     alloc: Global,
