@@ -1,0 +1,3 @@
+pub mod FuelOfRows
+pub mod FuelOfComputations
+pub mod Samples

@@ -1,0 +1,25 @@
+-- `simpl` and `unfold`: what each does with a goal, for which units, and when it is refused.
+use Rattle.std.specs.Prelude.{ℕ, List}
+use Rattle.base_core.specs.declared.refusal_codes.TheConstants.{NOT_BUILT}
+use Rattle.coq_syntax.specs.MoveTrees.{Move, Simpl, Unfold}
+use Rattle.core_term.specs.Tree.{Tree}
+use Rattle.cic_rules.specs.declared.env.Slot.{Slot}
+use Rattle.cic_rules.specs.Runs.{Run, ◌>>=◌, pure, refuse}
+use Rattle.proof_state.specs.declared.goals.Goal.{Goal}
+use Rattle.proof_state.specs.declared.state.Filling.{Filling}
+use Rattle.proof_state.specs.declared.state.Filling.TheVariants.{Give}
+use Rattle.proof_state.specs.Partial.{Hole}
+use Rattle.move_compute.specs.Simpl.{simpl_at}
+use Rattle.move_compute.specs.Unfold.{unfold_in}
+
+-- the goal with another type in its place
+abbrev pub goal_becomes : Goal → Run Tree → Run Filling
+goal_becomes g run = do
+  t ← run
+  pure (Give (Hole (record { ctx = g.ctx; ty = t })))
+
+-- a move of another kind is refused
+abbrev pub run_compute : List Slot → ℕ → Goal → Move → Run Filling
+run_compute env calls g (Simpl p) = goal_becomes g (simpl_at env calls g.ty)
+run_compute env calls g (Unfold p w) = goal_becomes g (unfold_in env w.text g.ty)
+run_compute env calls g _ = refuse NOT_BUILT

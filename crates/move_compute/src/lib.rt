@@ -1,0 +1,10 @@
+//! The proof moves `simpl` and `unfold`: a goal that is computed further, by the rules or by one definition.
+#![tactic(auto)]
+
+mod laws;
+mod moves;
+mod refusals;
+mod unfolding;
+
+pub use laws::law_of_fuel;
+pub use moves::run_compute;
