@@ -1,7 +1,6 @@
 -- The law of fuel for each run.
 use Rattle.std.specs.Prelude.{ℕ, zero, suc, List, [], false, Option, Some, None, Ok, Err}
 use Rattle.core_term.specs.Tree.{Tree, Var, Sorted, Constant, Prod, Lam, LetIn, App}
-use Rattle.core_term.specs.declared.stops.TermStop.TheVariants.{TooLarge, NoMem}
 use Rattle.cic_rules.specs.declared.env.Slot.{Slot}
 use Rattle.cic_rules.specs.Laws.{KeepsLawOfFuel}
 use Rattle.cic_rules.specs.Reduce.{contract}
@@ -10,8 +9,6 @@ use Rattle.cic_rules.proofs.FuelLaws.{IsTurn, law_pure, law_bind, law_step, law_
 use Rattle.cic_rules.proofs.JudgeFuelLaws.{turn_reduce}
 use Rattle.move_compute.specs.Refold.{Refold}
 use Rattle.move_compute.specs.Simpl.{contract_refold, by_parts, rebuilt, refold_step, head_step_by, head_step, simpl_head_at, simpl_at}
-use Rattle.move_compute.specs.Unfold.{Making, term_of, unfold_in}
-use Rattle.move_compute.specs.declared.unfolding.Unfolded.{Unfolded}
 
 turn_contract : (to : Tree) → IsTurn (contract 2 to)
 turn_contract to = search (turn_laws)
@@ -55,11 +52,3 @@ module _ (env : List Slot) where
   unfolding simpl_at
   law_simpl zero t = search (fuel_laws)
   law_simpl (suc calls) t = law_step (law_spend 1) (law_bind (law_head calls t) (λ h. law_parts (simpl_at env calls) (law_simpl calls) h))
-
-law_term : (u : Making Unfolded) → KeepsLawOfFuel (give (term_of u))
-law_term (Ok u) = law_give _ (λ e. cc)
-law_term (Err TooLarge) = law_give _ (λ e. cc)
-law_term (Err NoMem) = law_give _ (λ e. cc)
-
-pub law_unfold : (env : List Slot) (name : List ℕ) (goal : Tree) → KeepsLawOfFuel (unfold_in env name goal)
-law_unfold env name goal = search (fuel_laws, law_term) depth 12

@@ -1,3 +1,4 @@
 pub mod FuelOfRows
 pub mod FuelOfComputations
+pub mod UnfoldLaws
 pub mod Samples

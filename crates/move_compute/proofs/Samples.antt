@@ -12,6 +12,7 @@ use Rattle.cic_rules.specs.Infer.{infer_at}
 use Rattle.cic_rules.specs.Inductive.{row_at}
 use Rattle.cic_rules.specs.Reduce.{whnf_at}
 use Rattle.cic_rules.specs.Runs.{Ran, Run, ◌>>=◌, pure, refuse, repeat}
+use Rattle.cic_rules.specs.Steps.{take_step}
 use Rattle.cic_rules.proofs.FirstState.{first_state}
 use Rattle.move_compute.specs.Simpl.{simpl_head_at, simpl_at}
 use Rattle.move_compute.specs.Unfold.{unfold_in}
@@ -164,7 +165,7 @@ calls_done = refl
 
 module _ (env : List Slot) where
   abbrev unfolded_once : List ℕ → Tree → Ran Tree
-  unfolded_once name t = unfold_in env name t 1000
+  unfolded_once name t = take_step (unfold_in env name t) 1000
 
   abbrev unfoldings : List (Ran Tree)
   unfoldings =

@@ -9,16 +9,12 @@ use Rattle.proof_state.specs.declared.goals.Goal.{Goal}
 use Rattle.proof_state.specs.declared.state.Filling.{Filling}
 use Rattle.move_compute.specs.Moves.{run_compute}
 use Rattle.move_compute.specs.Simpl.{simpl_at, simpl_head_at}
-use Rattle.move_compute.specs.Unfold.{unfold_in}
 
 abbrev pub simpl_with : List Slot → Tree → FuelState → Ran Tree
 simpl_with env t f = simpl_at env (calls_left f) t (left f)
 
 abbrev pub simpl_head_with : List Slot → Tree → FuelState → Ran Tree
 simpl_head_with env t f = simpl_head_at env (calls_left f) t (left f)
-
-abbrev pub unfold_with : List Slot → List ℕ → Tree → FuelState → Ran Tree
-unfold_with env name goal f = unfold_in env name goal (left f)
 
 abbrev pub compute_with : List Slot → Goal → Move → FuelState → Ran Filling
 compute_with env g m f = run_compute env (calls_left f) g m (left f)

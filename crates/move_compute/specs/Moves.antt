@@ -5,6 +5,7 @@ use Rattle.coq_syntax.specs.MoveTrees.{Move, Simpl, Unfold}
 use Rattle.core_term.specs.Tree.{Tree}
 use Rattle.cic_rules.specs.declared.env.Slot.{Slot}
 use Rattle.cic_rules.specs.Runs.{Run, ◌>>=◌, pure, refuse}
+use Rattle.cic_rules.specs.Steps.{take_step}
 use Rattle.proof_state.specs.declared.goals.Goal.{Goal}
 use Rattle.proof_state.specs.declared.state.Filling.{Filling}
 use Rattle.proof_state.specs.declared.state.Filling.TheVariants.{Give}
@@ -21,5 +22,5 @@ goal_becomes g run = do
 -- a move of another kind is refused
 abbrev pub run_compute : List Slot → ℕ → Goal → Move → Run Filling
 run_compute env calls g (Simpl p) = goal_becomes g (simpl_at env calls g.ty)
-run_compute env calls g (Unfold p w) = goal_becomes g (unfold_in env w.text g.ty)
+run_compute env calls g (Unfold p w) = goal_becomes g (take_step (unfold_in env w.text g.ty))
 run_compute env calls g _ = refuse NOT_BUILT
