@@ -1,4 +1,5 @@
 pub mod FuelOfRows
 pub mod FuelOfComputations
 pub mod UnfoldLaws
+pub mod UnfoldScopes
 pub mod Samples

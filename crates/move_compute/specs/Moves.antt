@@ -19,8 +19,14 @@ goal_becomes g run = do
   t ← run
   pure (Give (Hole (record { ctx = g.ctx; ty = t })))
 
+abbrev pub by_simpl : List Slot → ℕ → Goal → Run Filling
+by_simpl env calls g = goal_becomes g (simpl_at env calls g.ty)
+
+abbrev pub by_unfold : List Slot → Goal → List ℕ → Run Filling
+by_unfold env g name = goal_becomes g (take_step (unfold_in env name g.ty))
+
 -- a move of another kind is refused
 abbrev pub run_compute : List Slot → ℕ → Goal → Move → Run Filling
-run_compute env calls g (Simpl p) = goal_becomes g (simpl_at env calls g.ty)
-run_compute env calls g (Unfold p w) = goal_becomes g (take_step (unfold_in env w.text g.ty))
+run_compute env calls g (Simpl p) = by_simpl env calls g
+run_compute env calls g (Unfold p w) = by_unfold env g w.text
 run_compute env calls g _ = refuse NOT_BUILT

@@ -4,6 +4,7 @@
 mod laws;
 mod moves;
 mod refusals;
+mod unfold_move;
 mod unfolding;
 
 pub use laws::law_of_fuel;
