@@ -2,4 +2,8 @@ pub mod FuelOfRows
 pub mod FuelOfComputations
 pub mod UnfoldLaws
 pub mod UnfoldScopes
+pub mod CallLaws
+pub mod FiringLaws
+pub mod RefoldLaws
+pub mod SimplScopes
 pub mod Samples

@@ -1,4 +1,8 @@
+pub mod Cases
+pub mod Firing
 pub mod Refold
+pub mod Scopes
+pub mod Turns
 pub mod Simpl
 pub mod Unfolding
 pub mod Unfold

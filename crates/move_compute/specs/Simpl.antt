@@ -4,14 +4,22 @@ use Rattle.base_core.specs.declared.refusals.Limit.TheVariants.{DepthLimit}
 use Rattle.core_term.specs.Tree.{Tree, Prod, Lam, LetIn, App}
 use Rattle.term_spine.specs.Spine.{head_of, arguments_of}
 use Rattle.cic_rules.specs.declared.env.Slot.{Slot}
-use Rattle.cic_rules.specs.Reduce.{contract, reduce_step}
-use Rattle.cic_rules.specs.Runs.{Run, ◌>>=◌, ◌>>◌, pure, out_of, spend, check_size, Turn, Final, runs}
-use Rattle.move_compute.specs.Refold.{Refold, refold_of, awaited, refolded}
+use Rattle.cic_rules.specs.Reduce.{redex_of, reduce_redex}
+use Rattle.cic_rules.specs.Runs.{Run, ◌>>=◌, ◌>>◌, pure, out_of, spend, check_size, Turn, Final, GoOn, runs}
+use Rattle.move_compute.specs.Firing.{chosen}
+use Rattle.move_compute.specs.Refold.{refold_of, awaited, own_eliminator, refolded}
+use Rattle.move_compute.specs.declared.firing.Chosen.{Chosen}
+use Rattle.move_compute.specs.declared.refolds.Refold.{Refold}
 
--- for two units; where the argument is no constructor the term stays as it was
-abbrev pub contract_refold : Tree → Option Tree → Run (Turn Tree Tree)
-contract_refold t None = pure (Final t)
-contract_refold t (Some to) = contract 2 to
+-- for two units: the eliminator with the arguments put in, and the result, are measured. Where the argument is no constructor the term
+-- stays as it was
+abbrev pub contract_refold : Tree → Tree → List Tree → Refold → Option Chosen → Run (Turn Tree Tree)
+contract_refold t head args r None = pure (Final t)
+contract_refold t head args r (Some c) = do
+  spend 2
+  check_size (own_eliminator r head args)
+  check_size (refolded r head args c)
+  pure (GoOn (refolded r head args c))
 
 -- a term that was built again is measured
 abbrev pub rebuilt : Tree → Run Tree
@@ -39,20 +47,20 @@ by_parts run (App f a) = do
 by_parts run t = pure t
 
 module _ (env : List Slot) where
-  -- a turn of a definition that goes on by this argument, if it has it
-  abbrev pub refold_step : (Tree → Run Tree) → Tree → Refold → Option Tree → Run (Turn Tree Tree)
-  refold_step reduce t r None = pure (Final t)
-  refold_step reduce t r (Some v) = do
+  -- a turn of a definition with its arguments that goes on by this one, if it has it
+  abbrev pub refold_step : (Tree → Run Tree) → Tree → Tree → List Tree → Refold → Option Tree → Run (Turn Tree Tree)
+  refold_step reduce t head args r None = pure (Final t)
+  refold_step reduce t head args r (Some v) = do
     w ← reduce v
-    contract_refold t (refolded r (head_of t) (arguments_of t) env w)
+    contract_refold t head args r (chosen env r.family (arguments_of r.eliminator) w)
 
   -- other heads take a turn of weak head reduction without delta, and without a context: no variable is unfolded
-  abbrev pub head_step_by : (Tree → Run Tree) → Tree → Option Refold → Run (Turn Tree Tree)
-  head_step_by reduce t None = reduce_step env false reduce [] t
-  head_step_by reduce t (Some r) = refold_step reduce t r (awaited r (arguments_of t))
+  abbrev pub head_step_by : (Tree → Run Tree) → Tree → Tree → List Tree → Option Refold → Run (Turn Tree Tree)
+  head_step_by reduce t head args None = reduce_redex env false reduce t (redex_of env false [] head args)
+  head_step_by reduce t head args (Some r) = refold_step reduce t head args r (awaited r args)
 
   abbrev pub head_step : (Tree → Run Tree) → Tree → Run (Turn Tree Tree)
-  head_step reduce t = head_step_by reduce t (refold_of env (head_of t))
+  head_step reduce t = head_step_by reduce t (head_of t) (arguments_of t) (refold_of env (head_of t))
 
   -- the head of a term, reduced as `simpl` does it; so many more judgements may stand in one another
   unfoldable pub simpl_head_at : ℕ → Tree → Run Tree

@@ -1,8 +1,13 @@
 //! The proof moves `simpl` and `unfold`: a goal that is computed further, by the rules or by one definition.
 #![tactic(auto)]
 
+mod cases;
+mod contractions;
+mod firing;
 mod laws;
+mod lookups;
 mod moves;
+mod refolds;
 mod refusals;
 mod unfold_move;
 mod unfolding;
