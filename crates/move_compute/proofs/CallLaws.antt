@@ -1,19 +1,20 @@
 -- Calls and cases: what is too large, and when values may be put in.
-use Rattle.std.specs.Prelude.{◌≡◌, ℕ, ◌+◌, ◌≤◌, max, List, [], ◌∷◌, length, drop, Bool, true, false, Some, None, Result, Ok, Err, slice_get, refl}
+use Rattle.std.specs.Prelude.{◌≡◌, ℕ, ◌+◌, ◌≤◌, List, [], ◌∷◌, drop, Bool, true, false, Some, Result, Ok, Err, slice_get, refl}
 use Rattle.std.proofs.Common.{arith, ap, sym, ◌∙◌, subst}
 use Rattle.std.proofs.lemmas.Bool.Decides.{nat_tests}
-use Rattle.core_term.specs.Tree.{Tree, Var, Sorted, Constant, Prod, Lam, LetIn, App, free_bound, depth_of, size_of, is_small}
+use Rattle.core_term.specs.Tree.{Tree, Var, Sorted, Constant, Prod, Lam, LetIn, App, IsTerm, depth_of, size_of, is_small}
 use Rattle.core_term.specs.Answers.{within_limits, Gives}
 use Rattle.core_term.specs.declared.stops.TermStop.{TermStop}
 use Rattle.core_term.proofs.Bounds.{size-lifted, depth-lifted}
 use Rattle.core_term.proofs.FreeVariables.{free_bound-lifted}
 use Rattle.term_spine.specs.SpineLaws.{AreOver}
 use Rattle.term_spine.proofs.SpineFacts.{size_applied, depth_applied}
-use Rattle.term_spine.specs.Spine.{apply_all, shift, shift_all, eta_body}
+use Rattle.term_spine.specs.Spine.{apply_all, shift_all, eta_body}
 use Rattle.term_spine.specs.Instantiate.{values_under, instantiate, instantiate_all}
 use Rattle.cic_rules.specs.Families.{indices}
-use Rattle.conversion.proofs.CaseLaws.{stopped, body_stop, app_stop, drop_found, same_term}
-use Rattle.move_compute.specs.Cases.{call_under, call_on, argument_on, case_on, IsCallOver}
+use Rattle.conversion.specs.Iota.{MayPutIn}
+use Rattle.conversion.proofs.CaseLaws.{may_next, over_first, stopped, body_stop, app_stop, function_stop, drop_found, same_term}
+use Rattle.move_compute.specs.Cases.{called, call_under, call_on, argument_on, case_on, IsCallOver}
 use Rattle.move_compute.specs.declared.cases.Call.{Call}
 
 large_more : (t u : Tree) → size_of t ≤ size_of u → depth_of t ≤ depth_of u → is_small t ≡ false → is_small u ≡ false
@@ -97,7 +98,7 @@ case_depth params (mark ∷ marks) call case values (Prod n a b) (v ∷ vs) =
     let one = to_depth params mark call case v values a in omega (arith, rest, one)
 case_depth params marks call case values t vs = omega arith
 
-case_large : (params : ℕ) (marks : List Bool) (call : Call) (case : Tree) (values : List Tree) (t : Tree) (vs : List Tree) → is_small case ≡ false →
+pub case_large : (params : ℕ) (marks : List Bool) (call : Call) (case : Tree) (values : List Tree) (t : Tree) (vs : List Tree) → is_small case ≡ false →
     is_small (case_on params marks call case values t vs) ≡ false
 case_large params marks call case values t vs large =
     large_more case (case_on params marks call case values t vs) (case_size params marks call case values t vs) (case_depth params marks call case values t vs) large
@@ -130,3 +131,55 @@ from_stop function value item values at stop found same gives =
     let whole : apply_all (App function value) (drop (at + 1) values) ≡ apply_all function (drop at values) =
     ap (λ v. apply_all (App function v) (drop (at + 1) values)) same ∙ sym (ap (apply_all function) cut) in
     subst (λ t. Gives {A = Tree} (Err stop) (within_limits t)) whole part
+
+-- a call that can't be made, by its function, or by what is called on the argument
+pub front_stop : (params : ℕ) (call : Call) (x : Tree) (values : List Tree) (t front ty : Tree) (stop : TermStop) → front ≡ call.front → ty ≡ t →
+    Gives {A = Tree} (Err stop) (within_limits (apply_all front (instantiate_all values (indices params ty)))) →
+    Gives {A = Tree} (Err stop) (within_limits (called params call x values t))
+front_stop params call x values t front ty stop one two gives =
+    let whole : apply_all front (instantiate_all values (indices params ty)) ≡ apply_all call.front (instantiate_all values (indices params t)) =
+    rw (one, two) refl in
+    let told = subst (λ u. Gives {A = Tree} (Err stop) (within_limits u)) whole gives in
+    app_stop stop (App (apply_all call.front (instantiate_all values (indices params t))) x) call.behind
+    (function_stop stop (apply_all call.front (instantiate_all values (indices params t))) x told)
+
+function_is : (params : ℕ) (call : Call) (values : List Tree) (t front ty function : Tree) → front ≡ call.front → ty ≡ t →
+    Ok function ≡ within_limits (apply_all front (instantiate_all values (indices params ty))) → function ≡ apply_all call.front (instantiate_all values (indices params t))
+function_is params call values t front ty function one two made =
+    let whole : apply_all front (instantiate_all values (indices params ty)) ≡ apply_all call.front (instantiate_all values (indices params t)) =
+    rw (one, two) refl in
+    same_term function (apply_all front (instantiate_all values (indices params ty))) made ∙ whole
+
+pub called_stop : (params : ℕ) (call : Call) (x : Tree) (values : List Tree) (t front ty function y : Tree) (stop : TermStop) → front ≡ call.front → ty ≡ t → y ≡ x →
+    Ok function ≡ within_limits (apply_all front (instantiate_all values (indices params ty))) → Gives {A = Tree} (Err stop) (within_limits (App function y)) →
+    Gives {A = Tree} (Err stop) (within_limits (called params call x values t))
+called_stop params call x values t front ty function y stop one two three made gives =
+    let is = function_is params call values t front ty function one two made in
+    let whole : App function y ≡ App (apply_all call.front (instantiate_all values (indices params t))) x = rw (is, three) refl in
+    app_stop stop (App (apply_all call.front (instantiate_all values (indices params t))) x) call.behind
+    (subst (λ u. Gives {A = Tree} (Err stop) (within_limits u)) whole gives)
+
+pub called_is : (params : ℕ) (call : Call) (x : Tree) (values : List Tree) (t front ty function y called_term : Tree) (r : Result Tree TermStop) → front ≡ call.front → ty ≡ t → y ≡ x →
+    Ok function ≡ within_limits (apply_all front (instantiate_all values (indices params ty))) → Ok called_term ≡ within_limits (App function y) →
+    Gives r (within_limits (apply_all called_term (drop 0 call.behind))) → Gives r (within_limits (called params call x values t))
+called_is params call x values t front ty function y called_term r one two three made applied gives =
+    let is = function_is params call values t front ty function one two made in
+    let whole : called_term ≡ App (apply_all call.front (instantiate_all values (indices params t))) x =
+    same_term called_term (App function y) applied ∙ rw (is, three) refl in
+    subst (λ u. Gives r (within_limits (apply_all u call.behind))) whole gives
+
+-- a call whose body can't be made
+pub inner_stop : (params : ℕ) (call deeper : Call) (x applied ty a b : Tree) (values under : List Tree) (n : List ℕ) (stop : TermStop) → ty ≡ Prod n a b →
+    deeper ≡ call_under call → Ok applied ≡ within_limits (eta_body x) → under ≡ values_under values →
+    Gives {A = Tree} (Err stop) (within_limits (call_on params deeper applied under b)) → Gives {A = Tree} (Err stop) (within_limits (call_on params call x values ty))
+inner_stop params call deeper x applied ty a b values under n stop is one two three gives =
+    let app = same_term applied (eta_body x) two in
+    let whole : call_on params deeper applied under b ≡ call_on params (call_under call) (eta_body x) (values_under values) b = rw (one, app, three) refl in
+    let told = subst (λ u. Gives {A = Tree} (Err stop) (within_limits u)) whole gives in
+    rw is (body_stop stop n (instantiate values a) (call_on params (call_under call) (eta_body x) (values_under values) b) told)
+
+pub next_values : (vars : ℕ) (values made : List Tree) (ty : Tree) (n : List ℕ) (a b v : Tree) (args rest : List Tree) → ty ≡ Prod n a b → args ≡ v ∷ rest →
+    made ≡ v ∷ values → MayPutIn vars values ty → AreOver vars args → IsTerm v → MayPutIn vars made b
+next_values vars values made ty n a b v args rest prod split same may over is =
+    subst (λ vs. MayPutIn vars vs b) (sym same)
+    (may_next vars values n a b v (subst (MayPutIn vars values) prod may) (over_first vars args v rest split over) is)

@@ -1,11 +1,11 @@
 -- The law of fuel for each run.
-use Rattle.std.specs.Prelude.{ℕ, zero, suc, List, [], false, Option, Some, None, Ok, Err}
+use Rattle.std.specs.Prelude.{ℕ, zero, suc, List, [], false, Option, Some, None}
 use Rattle.std.proofs.Common.{arith}
 use Rattle.core_term.specs.Tree.{Tree, Var, Sorted, Constant, Prod, Lam, LetIn, App}
 use Rattle.cic_rules.specs.declared.env.Slot.{Slot}
 use Rattle.cic_rules.specs.Laws.{KeepsLawOfFuel}
 use Rattle.cic_rules.specs.Runs.{Run, ◌>>◌, pure, check_size, Turn, GoOn}
-use Rattle.cic_rules.proofs.FuelLaws.{IsTurn, law_pure, law_bind, law_step, law_give, law_spend, law_loop, law_size, turn_spend, fuel_laws, turn_laws}
+use Rattle.cic_rules.proofs.FuelLaws.{IsTurn, law_pure, law_bind, law_step, law_spend, law_loop, law_size, turn_spend, fuel_laws, turn_laws}
 use Rattle.cic_rules.proofs.JudgeFuelLaws.{turn_reduce}
 use Rattle.term_spine.specs.Spine.{head_of, arguments_of}
 use Rattle.move_compute.specs.Refold.{refold_of, awaited, own_eliminator, refolded}

@@ -6,4 +6,6 @@ pub mod CallLaws
 pub mod FiringLaws
 pub mod RefoldLaws
 pub mod SimplScopes
+pub mod RefoldingLaws
+pub mod IotaLaws
 pub mod Samples

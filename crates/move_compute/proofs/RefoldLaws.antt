@@ -10,11 +10,10 @@ use Rattle.cic_rules.specs.declared.decls.InductiveDecl.{InductiveDecl}
 use Rattle.cic_rules.specs.declared.env.Slot.{Slot}
 use Rattle.cic_rules.specs.declared.shapes.FamilyShape.{FamilyShape}
 use Rattle.cic_rules.specs.Environments.{body_of_global, decl_at}
-use Rattle.cic_rules.specs.Families.{Family, eliminator_of, family_at}
+use Rattle.cic_rules.specs.Families.{eliminator_of, family_at}
 use Rattle.cic_rules.specs.Shapes.{shape_of, shape_if_any, shape_at}
 use Rattle.conversion.specs.Lookups.{family_if_any}
 use Rattle.move_compute.specs.Refold.{stripped, refold_in, refold_shaped, refold_of}
-use Rattle.move_compute.specs.declared.refolds.Refold.{Refold}
 use Rattle.move_compute.specs.declared.refolds.Stripped.{Stripped}
 
 pub head_made : (s : Spine) (t : Tree) → IsSpineOf s t → head_of t ≡ s.head

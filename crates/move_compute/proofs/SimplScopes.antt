@@ -7,7 +7,7 @@ use Rattle.base_core.specs.declared.refusals.Limit.TheVariants.{DepthLimit}
 use Rattle.core_term.specs.Tree.{Tree, Var, Sorted, Constant, Prod, Lam, LetIn, App}
 use Rattle.core_term.specs.Places.{subst_of}
 use Rattle.term_spine.specs.Instantiate.{instantiate, instantiate_under, instantiate_all, values_under}
-use Rattle.term_spine.specs.Spine.{head_of, arguments_of, apply_all, shift_all, eta_body}
+use Rattle.term_spine.specs.Spine.{head_of, arguments_of, apply_all, eta_body}
 use Rattle.cic_rules.specs.declared.decls.Ctor.{Ctor}
 use Rattle.cic_rules.specs.declared.decls.InductiveDecl.{InductiveDecl}
 use Rattle.cic_rules.specs.declared.env.Slot.{Slot}
@@ -18,19 +18,18 @@ use Rattle.cic_rules.specs.Laws.{Tells, Turned}
 use Rattle.cic_rules.specs.Reduce.{Redex, Stuck, Reduces, OnMajor, global_redex, redex_of, contract, contract_iota, reduce_redex}
 use Rattle.cic_rules.specs.Runs.{Run, GoOn, Final, spend, check_size}
 use Rattle.cic_rules.specs.Scopes.{IsScoped, AreScoped}
-use Rattle.cic_rules.specs.Shapes.{shape_if_any, shape_at, shape_of}
+use Rattle.cic_rules.specs.Shapes.{shape_if_any, shape_of}
 use Rattle.cic_rules.proofs.EnvironmentScopes.{body_scoped, decl_scoped}
 use Rattle.cic_rules.proofs.IotaScopes.{scoped_iota, scoped_newest, length_newest}
 use Rattle.cic_rules.proofs.ScopeLaws.{scoped_head, scoped_arguments, scoped_apply_all, scoped_get, scoped_subst, scoped_take, scoped_drop, scoped_shift, scoped_shift_all, scoped_eta, scoped_under, length_under, scoped_instantiate, scoped_instantiate_all}
 use Rattle.cic_rules.proofs.TellsLaws.{tells_pure, tells_stop, tells_bind, tells_step, tells_loop}
 use Rattle.move_compute.specs.Cases.{call_under, call_on, argument_on, case_on}
-use Rattle.move_compute.specs.Firing.{chosen_full, chosen_case, chosen_marks, chosen_ctor, chosen_index, chosen_in, chosen_by, chosen, fired}
-use Rattle.move_compute.specs.Refold.{stripped, stands_once, refold_on, refold_in, refold_of_stripped, refold_of_body, refold_of, awaited, own_eliminator, own_call, refolded}
+use Rattle.move_compute.specs.Firing.{chosen_case, chosen_marks, chosen_ctor, chosen_index, chosen_in, chosen_by, chosen}
+use Rattle.move_compute.specs.Refold.{stripped, stands_once, refold_on, refold_in, refold_of_body, refold_of, own_eliminator, own_call, refolded}
 use Rattle.move_compute.specs.Simpl.{contract_refold, by_parts, rebuilt, refold_step, head_step_by, head_step, simpl_head_at, simpl_at}
 use Rattle.move_compute.specs.declared.cases.Call.{Call}
 use Rattle.move_compute.specs.declared.firing.Chosen.{Chosen}
 use Rattle.move_compute.specs.declared.refolds.Refold.{Refold}
-use Rattle.move_compute.specs.declared.refolds.Stripped.{Stripped}
 
 pub record IsScopedCall (n m : ℕ) (call : Call) : Type 0 where
   pub front : IsScoped n m call.front
@@ -42,9 +41,11 @@ call_deeper n m call h = record { front = scoped_shift n m call.front h.front; b
 call_end : (n m p params : ℕ) (call : Call) (x : Tree) (values : List Tree) (t : Tree) → p ≡ length values → IsScopedCall n m call → IsScoped n m x →
     AreScoped n m values → IsScoped p m t → IsScoped n m (apply_all (App (apply_all call.front (instantiate_all values (indices params t))) x) call.behind)
 call_end n m p params call x values t e h v all s =
-    scoped_apply_all n m (App (apply_all call.front (instantiate_all values (indices params t))) x) call.behind
-    (scoped_apply_all n m call.front (instantiate_all values (indices params t)) h.front
-    (scoped_instantiate_all n m p values (indices params t) e (scoped_drop p m params (arguments_of t) (scoped_arguments p m t s)) all), v) h.behind
+    scoped_apply_all n m (App (apply_all call.front (instantiate_all values (indices params t))) x) call.behind (
+      scoped_apply_all n m call.front (instantiate_all values (indices params t)) h.front
+          (scoped_instantiate_all n m p values (indices params t) e (scoped_drop p m params (arguments_of t) (scoped_arguments p m t s)) all),
+      v,
+    ) h.behind
 
 scoped_call : (n m p params : ℕ) (call : Call) (x : Tree) (values : List Tree) (t : Tree) → p ≡ length values → IsScopedCall n m call → IsScoped n m x →
     AreScoped n m values → IsScoped p m t → IsScoped n m (call_on params call x values t)
@@ -205,7 +206,7 @@ append_count [] us = omega arith
 append_count (t ∷ ts) us = let rest = append_count ts us in omega (arith, rest)
 
 -- no argument is lost where values are put in
-arguments_kept : (values : List Tree) (t : Tree) (binders : ℕ) → length (arguments_of t) ≤ length (arguments_of (instantiate_under values t binders))
+pub arguments_kept : (values : List Tree) (t : Tree) (binders : ℕ) → length (arguments_of t) ≤ length (arguments_of (instantiate_under values t binders))
 arguments_kept values (App f a) binders =
     let rest = arguments_kept values f binders in
     let one = append_count (arguments_of f) (a ∷ []) in
@@ -237,7 +238,7 @@ refolded_scoped n m r head args c is h all enough chosen =
     (newest_count c.params (arguments_of (own_eliminator r head args)) within)
     (record {
       front = scoped_apply_all n m head (take r.at args) h (scoped_take n m r.at args all);
-      behind = scoped_drop n m (suc r.at) (take r.count args) (scoped_take n m r.count args all);
+      behind = scoped_take n m (r.count - r.at - 1) (drop (r.at + 1) args) (scoped_drop n m (r.at + 1) args all);
     }) case
     (scoped_newest n m (take c.params (arguments_of (own_eliminator r head args))) [] (scoped_take n m c.params (arguments_of (own_eliminator r head args)) inner_args) tt)
     chosen.ty chosen.given)

@@ -1,5 +1,5 @@
 -- A value put in by beta within a goal: it may be put in, and brings no variable.
-use Rattle.std.specs.Prelude.{◌≡◌, ℕ, ◌+◌, ◌-◌, ◌^◌, ◌≤◌, max}
+use Rattle.std.specs.Prelude.{◌+◌, ◌-◌, ◌^◌, ◌≤◌, max}
 use Rattle.std.proofs.Common.{arith}
 use Rattle.core_term.specs.Tree.{Tree, IsTerm, IsNumbered, free_bound}
 use Rattle.core_term.specs.Places.{subst_of}

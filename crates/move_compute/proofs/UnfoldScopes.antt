@@ -1,11 +1,10 @@
 -- What `unfold` gives is in scope, as the goal was.
-use Rattle.std.specs.Prelude.{◌≡◌, ℕ, suc, ◌+◌, ◌^◌, ◌≤◌, ◌<◌, ◌==◌, List, length, Bool, true, false, Option, Some, None, Result, Ok, Err, refl, IfOk, IfSome, if◌then◌else◌}
+use Rattle.std.specs.Prelude.{◌≡◌, ℕ, suc, ◌≤◌, ◌<◌, ◌==◌, List, length, Bool, true, false, Option, Some, None, Result, Ok, Err, refl, IfOk, IfSome, if◌then◌else◌}
 use Rattle.std.proofs.Common.{arith, subst, sym}
 use Rattle.base_core.specs.Answers.{Gives}
 use Rattle.base_core.specs.declared.refusals.Stop.{Stop}
 use Rattle.core_term.specs.Places.{subst_of}
 use Rattle.core_term.specs.Tree.{Tree, Var, Sorted, Constant, Prod, Lam, LetIn, App, free_bound, is_small}
-use Rattle.core_term.specs.declared.stops.TermStop.{TermStop}
 use Rattle.core_term.specs.declared.stops.TermStop.TheVariants.{TooLarge}
 use Rattle.term_spine.specs.Globals.{mentions}
 use Rattle.cic_rules.specs.declared.context.Hyp.{Hyp}

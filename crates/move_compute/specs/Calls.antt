@@ -1,5 +1,5 @@
 -- Rows that calls of their own answer, on some fuel: with its units, and with so many more judgements in one another.
-use Rattle.std.specs.Prelude.{ℕ, List}
+use Rattle.std.specs.Prelude.{List}
 use Rattle.coq_syntax.specs.MoveTrees.{Move}
 use Rattle.core_term.specs.Tree.{Tree}
 use Rattle.cic_rules.specs.declared.env.Slot.{Slot}

@@ -1,8 +1,7 @@
 -- Which case a constructor chooses, and what it becomes.
-use Rattle.std.specs.Prelude.{◌≡◌, ℕ, ◌+◌, ◌^◌, ◌≤◌, ◌==◌, List, [], length, take, drop, Bool, Option, Some, None, if◌then◌else◌, slice_get}
-use Rattle.core_term.specs.Tree.{Tree, free_bound}
+use Rattle.std.specs.Prelude.{ℕ, ◌+◌, ◌==◌, List, [], length, take, drop, Bool, Option, Some, None, if◌then◌else◌, slice_get}
+use Rattle.core_term.specs.Tree.{Tree}
 use Rattle.term_spine.specs.Spine.{head_of, arguments_of, apply_all}
-use Rattle.term_spine.specs.SpineLaws.{AreOver}
 use Rattle.cic_rules.specs.declared.decls.Ctor.{Ctor}
 use Rattle.cic_rules.specs.declared.decls.InductiveDecl.{InductiveDecl}
 use Rattle.cic_rules.specs.declared.env.Slot.{Slot}

@@ -64,7 +64,7 @@ module _ (r : Refold) (head : Tree) (args : List Tree) where
 
   -- the function on another argument
   abbrev pub own_call : Call
-  own_call = record { front = apply_all head (take r.at args); behind = drop (suc r.at) (take r.count args) }
+  own_call = record { front = apply_all head (take r.at args); behind = take (r.count - r.at - 1) (drop (r.at + 1) args) }
 
   -- what it becomes by a case
   abbrev pub refolded : Chosen → Tree

@@ -11,15 +11,18 @@ use Rattle.move_compute.specs.Refold.{refold_of, awaited, own_eliminator, refold
 use Rattle.move_compute.specs.declared.firing.Chosen.{Chosen}
 use Rattle.move_compute.specs.declared.refolds.Refold.{Refold}
 
--- for two units: the eliminator with the arguments put in, and the result, are measured. Where the argument is no constructor the term
--- stays as it was
+-- a definition goes on for two units; the eliminator with the arguments put in, and what it becomes, are measured
+abbrev pub paid_refold : Tree → Tree → Run (Turn Tree Tree)
+paid_refold inner to = do
+  spend 2
+  check_size inner
+  check_size to
+  pure (GoOn to)
+
+-- where the argument is no constructor the term stays as it was
 abbrev pub contract_refold : Tree → Tree → List Tree → Refold → Option Chosen → Run (Turn Tree Tree)
 contract_refold t head args r None = pure (Final t)
-contract_refold t head args r (Some c) = do
-  spend 2
-  check_size (own_eliminator r head args)
-  check_size (refolded r head args c)
-  pure (GoOn (refolded r head args c))
+contract_refold t head args r (Some c) = paid_refold (own_eliminator r head args) (refolded r head args c)
 
 -- a term that was built again is measured
 abbrev pub rebuilt : Tree → Run Tree

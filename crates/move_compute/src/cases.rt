@@ -9,7 +9,7 @@ ghost use Rattle.term_spine.specs.SpineLaws.{AreOver};
 ghost use Rattle.term_spine.specs.Instantiate.{values_under as under_binder, instantiate_all};
 ghost use Rattle.cic_rules.specs.Families.{newest_first, indices};
 ghost use Rattle.conversion.specs.Iota.{Makes, MayPutIn, MayPutInAll};
-ghost use Rattle.move_compute.specs.Cases.{call_under as deeper_call, call_on as is_call_on, argument_on as is_argument_on, case_on as is_case_on, IsCallOver};
+ghost use Rattle.move_compute.specs.Cases.{called, call_under as deeper_call, call_on as is_call_on, argument_on as is_argument_on, case_on as is_case_on, IsCallOver};
 
 use base_core::NoMem;
 use core_term::{Node, Term, TermStop};
@@ -281,18 +281,33 @@ fn call_on(
                 Err(stop) => Err(stop),
             }
         }
-        _ => {
-            let front = call.front.share()?;
-            let argument = argument.share()?;
-            let ty = ty.share()?;
-            match called_with(alloc, params, front, values, ty, vars) {
-                Ok(function) => match Term::app(alloc, function, argument) {
-                    Ok(called) => applied_from(alloc, called, &call.behind, 0),
-                    Err(stop) => Err(stop),
-                },
-                Err(stop) => Err(stop),
-            }
-        }
+        _ => called_on(alloc, params, call, argument, values, ty, vars),
+    }
+}
+
+/// A call on a recursive argument whose type has no products in front.
+#[tactic(auto, using(crate::proofs::CallLaws::front_stop, crate::proofs::CallLaws::called_stop, crate::proofs::CallLaws::called_is))]
+fn called_on(
+    alloc: Global,
+    params: usize,
+    call: &Call,
+    argument: &Term,
+    values: &SharedList<Term>,
+    ty: &Term,
+    vars: u32,
+) -> Result<Term, TermStop>
+    requires { MayPutIn vars values.now ty.now }
+    ensures { Gives result (within_limits (called params call.now argument.now values.now ty.now)) }
+{
+    let front = call.front.share()?;
+    let argument = argument.share()?;
+    let ty = ty.share()?;
+    match called_with(alloc, params, front, values, ty, vars) {
+        Ok(function) => match Term::app(alloc, function, argument) {
+            Ok(called) => applied_from(alloc, called, &call.behind, 0),
+            Err(stop) => Err(stop),
+        },
+        Err(stop) => Err(stop),
     }
 }
 
@@ -361,6 +376,7 @@ pub(crate) fn case_on(
     match args.split()? {
         None => within(case),
         Some((first, rest)) => {
+            let _depth = first.depth();
             match argument_on(
                 alloc, params, *mark, call, case, &first, &values, domain, vars,
             ) {

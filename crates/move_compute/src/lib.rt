@@ -2,7 +2,6 @@
 #![tactic(auto)]
 
 mod cases;
-mod contractions;
 mod firing;
 mod laws;
 mod lookups;

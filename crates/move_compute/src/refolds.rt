@@ -35,11 +35,7 @@ pub struct Stripped {
 
 /// How the global at a place goes on, if it is such a transparent definition.
 #[tactic(auto, using(crate::proofs::RefoldLaws::spine_refold))]
-pub(crate) fn refold_of(
-    alloc: Global,
-    env: &GlobalEnv,
-    place: u32,
-) -> Result<Option<Refold>, NoMem>
+pub(crate) fn refold_of(alloc: Global, env: &GlobalEnv, place: u32) -> Result<Option<Refold>, NoMem>
     ensures { IfOk result (λ r. r ≡ is_refold_of env.now (Constant place)) }
 {
     let Some(body) = body_at(env, place) else {

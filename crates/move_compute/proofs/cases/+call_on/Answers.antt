@@ -56,3 +56,15 @@ pub returns-in-Err : goal.returns-in-Err
 returns-in-Err t c =
     let prod : c.args.ty.now ≡ Prod c.in-Prod.name c.in-Prod.domain c.in-Prod.codomain = sym c.node.ensures.top ∙ ap tree_of c.in-Prod.is in
     rw prod (law.domain_stop c.in-Err.stop c.in-Prod.name (instantiate c.args.values.now c.in-Prod.domain) _ c.in-Err.ensures)
+
+pub call_under-requires-clause-behind : goal.call_under-requires-clause-behind
+call_under-requires-clause-behind t c =
+    let room = c.requires.values.room in
+    law.over_more c.args.vars 2147485648 c.args.call.now.behind (omega (arith, room)) c.requires.call.behind
+
+pub returns-in-Err-call_on : goal.returns-in-Err-call_on
+returns-in-Err-call_on t c =
+    let prod : c.args.ty.now ≡ Prod c.in-Prod.name c.in-Prod.domain c.in-Prod.codomain = sym c.node.ensures.top ∙ ap tree_of c.in-Prod.is in
+    own.inner_stop c.args.params c.args.call.now c.in_ok-deeper-in-Prod.deeper c.args.argument.now c.in-Ok-eta_body.applied c.args.ty.now c.in-Prod.domain
+    c.in-Prod.codomain c.args.values.now c.in_ok-under-in-Prod.under c.in-Prod.name c.in-Err-call_on.stop prod c.in_ok-deeper-in-Prod.ensures c.in-Ok-eta_body.ensures
+    c.in_ok-under-in-Prod.ensures c.in-Err-call_on.ensures
