@@ -41,8 +41,11 @@ refold_in under (Some f) head args =
     then refold_on under f.place (apply_all head (take (count_fixed f.decl) args)) (slice_get args (count_fixed f.decl))
     else None
 
+abbrev pub refold_with : List Slot → List Tree → Tree → List Tree → Option Refold
+refold_with env under head args = refold_in under (eliminator_of env head) head args
+
 abbrev pub refold_of_stripped : List Slot → Stripped → Option Refold
-refold_of_stripped env s = refold_in s.under (eliminator_of env (head_of s.body)) (head_of s.body) (arguments_of s.body)
+refold_of_stripped env s = refold_with env s.under (head_of s.body) (arguments_of s.body)
 
 abbrev pub refold_of_body : List Slot → Option Tree → Option Refold
 refold_of_body env None = None

@@ -1,8 +1,7 @@
 //! Definitions that go on by one of their arguments.
 ghost use Rattle.std.specs.Prelude.{◌≡◌, ◌+◌, ◌==◌, Some, slice_get, IfOk};
 ghost use Rattle.core_term.specs.Tree.{Constant};
-ghost use Rattle.cic_rules.specs.Families.{eliminator_of};
-ghost use Rattle.move_compute.specs.Refold.{stripped as is_stripped, stands_once as is_standing_once, refold_on as refold_by_value, refold_in, refold_shaped, refold_of as is_refold_of};
+ghost use Rattle.move_compute.specs.Refold.{stripped as is_stripped, stands_once as is_standing_once, refold_on as refold_by_value, refold_with, refold_shaped, refold_of as is_refold_of};
 
 use crate::cases::applied_first;
 use crate::lookups::{argument_at, eliminated_family, spine_of_term};
@@ -71,7 +70,7 @@ fn refold_of_spine(
     under: &SharedList<Term>,
     spine: &Spine,
 ) -> Result<Option<Refold>, NoMem>
-    ensures { IfOk result (λ r. r ≡ refold_in under.now (eliminator_of env.now spine.now.head) spine.now.head spine.now.args) }
+    ensures { IfOk result (λ r. r ≡ refold_with env.now under.now spine.now.head spine.now.args) }
 {
     let Some(family) = eliminated_family(env, &spine.head) else {
         return Ok(None);
