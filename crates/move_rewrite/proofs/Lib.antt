@@ -1,0 +1,5 @@
+pub mod FuelOfRewriting
+pub mod Subterms
+pub mod Replacements
+pub mod Sides
+pub mod Samples
