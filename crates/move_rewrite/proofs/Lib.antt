@@ -1,4 +1,5 @@
 pub mod FuelOfRewriting
+pub mod RunsInTurn
 pub mod Subterms
 pub mod Replacements
 pub mod Sides

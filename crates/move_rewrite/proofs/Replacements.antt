@@ -1,8 +1,9 @@
 -- A new variable in place of a subterm: sizes and scope.
-use Rattle.std.specs.Prelude.{◌≡◌, ℕ, suc, ◌+◌, ◌^◌, ◌<◌, ◌≤◌, nat_le, List, length, Bool, true, false, Ok, refl, if◌then◌else◌}
+use Rattle.std.specs.Prelude.{◌≡◌, ℕ, suc, ◌+◌, ◌^◌, ◌<◌, ◌≤◌, nat_le, List, length, Bool, true, false, Result, Ok, refl, if◌then◌else◌}
 use Rattle.std.proofs.Common.{subst, sym, ap, ◌∙◌, arith}
 use Rattle.std.proofs.lemmas.Bool.Decides.{nat_tests}
-use Rattle.core_term.specs.Answers.{within_limits}
+use Rattle.core_term.specs.Answers.{within_limits, Gives}
+use Rattle.core_term.specs.declared.stops.TermStop.{TermStop}
 use Rattle.core_term.specs.Places.{lift_of, subst_of}
 use Rattle.core_term.specs.Tree.{Tree, Var, Sorted, Constant, Prod, Lam, LetIn, App, IsTerm, IsNumbered, size_of, depth_of, free_bound, same_tree}
 use Rattle.core_term.proofs.Bounds.{size-lifted}
@@ -28,6 +29,14 @@ here u t binders is = sym (abstracted_is u t binders ∙ ap (λ b. if b then Var
 
 pub not_here : (u t : Tree) (binders : ℕ) → same_tree t (lift_of u binders 0) ≡ false → abstracted_parts u t binders ≡ abstracted u t binders
 not_here u t binders is = sym (abstracted_is u t binders ∙ ap (λ b. if b then Var binders else abstracted_parts u t binders) is)
+
+pub here_gives : (u t : Tree) (binders : ℕ) (result : Result Tree TermStop) → same_tree t (lift_of u binders 0) ≡ true →
+    Gives result (within_limits (Var binders)) → Gives result (within_limits (abstracted u t binders))
+here_gives u t binders result is gives = subst (λ (v : Tree). Gives result (within_limits v)) (here u t binders is) gives
+
+pub parts_give : (u t : Tree) (binders : ℕ) (result : Result Tree TermStop) → same_tree t (lift_of u binders 0) ≡ false →
+    Gives result (within_limits (abstracted_parts u t binders)) → Gives result (within_limits (abstracted u t binders))
+parts_give u t binders result is gives = subst (λ (v : Tree). Gives result (within_limits v)) (not_here u t binders is) gives
 
 pub sizes_apart : (u t : Tree) (binders : ℕ) → (size_of t ≡ size_of u → ⊥) → false ≡ same_tree t (lift_of u binders 0)
 sizes_apart u t binders apart = same_tree-apart t (lift_of u binders 0) (λ same. apart (same ∙ size-lifted u binders 0))

@@ -1,12 +1,16 @@
 -- Subterms: the search for one, and terms taken out of binders by values that are unset.
-use Rattle.std.specs.Prelude.{◌≡◌, ℕ, zero, suc, ◌+◌, ◌-◌, ◌^◌, ◌<◌, ◌≤◌, ◌||◌, nat_le, nat_lt, List, length, Bool, true, false, Option, Some, None, Ok, refl, slice_get, if◌then◌else◌}
+use Rattle.std.specs.Prelude.{◌≡◌, ℕ, zero, suc, ◌+◌, ◌-◌, ◌^◌, ◌<◌, ◌≤◌, ◌||◌, nat_le, nat_lt, List, length, Bool, true, false, Option, Some, None, Result, Ok, Err, refl, slice_get, if◌then◌else◌}
 use Rattle.std.proofs.Common.{subst, sym, ap, ◌∙◌, arith}
 use Rattle.std.proofs.lemmas.Bool.Decides.{nat_tests}
+use Rattle.base_core.specs.declared.refusals.Stop.{Stop}
 use Rattle.core_term.specs.Answers.{within_limits, Gives}
+use Rattle.core_term.specs.declared.stops.TermStop.{TermStop}
 use Rattle.core_term.specs.declared.stops.TermStop.TheVariants.{TooLarge}
 use Rattle.core_term.specs.Tree.{Tree, Var, Sorted, Constant, Prod, Lam, LetIn, App, IsTerm, IsNumbered, is_small}
 use Rattle.cic_rules.specs.declared.context.Hyp.{Hyp}
 use Rattle.cic_rules.specs.declared.env.Slot.{Slot}
+use Rattle.cic_rules.specs.Fuel.{FuelState, left, calls_left}
+use Rattle.cic_rules.specs.Judges.{Meets}
 use Rattle.cic_rules.specs.Runs.{Run, pure}
 use Rattle.cic_rules.specs.Scopes.{IsScoped}
 use Rattle.matching.specs.Lowering.{has_bound, lower_of, without_binders}
@@ -15,35 +19,51 @@ use Rattle.matching.specs.Scopes.{AreValues, Finds}
 use Rattle.matching.proofs.Lowerings.{lower_fits, lower_scoped}
 use Rattle.move_basic.proofs.Arguments.{unset_count}
 use Rattle.move_rewrite.specs.declared.searching.Found.{Found}
+use Rattle.move_rewrite.specs.Calls.{tried_with, first_found_with}
 use Rattle.move_rewrite.specs.Scopes.{IsFound, IsFoundFor}
-use Rattle.move_rewrite.specs.Search.{first_in, tried, first_found}
+use Rattle.move_rewrite.proofs.RunsInTurn.{after_value, after_stop}
+use Rattle.move_rewrite.specs.Search.{or_later, first_in, tried, first_found}
 
 -- the parts of a term, from the left
-abbrev pub search_parts : List Slot → ℕ → List Hyp → ℕ → Tree → ℕ → Tree → Run (Option Found)
-search_parts env calls ctx count pattern binders (Var i) = pure None
-search_parts env calls ctx count pattern binders (Sorted s) = pure None
-search_parts env calls ctx count pattern binders (Constant c) = pure None
-search_parts env calls ctx count pattern binders (Prod n a b) =
+abbrev pub found_in_parts : List Slot → ℕ → List Hyp → ℕ → Tree → ℕ → Tree → Run (Option Found)
+found_in_parts env calls ctx count pattern binders (Var i) = pure None
+found_in_parts env calls ctx count pattern binders (Sorted s) = pure None
+found_in_parts env calls ctx count pattern binders (Constant c) = pure None
+found_in_parts env calls ctx count pattern binders (Prod n a b) =
     first_in (first_found env calls ctx count pattern binders a) (first_found env calls ctx count pattern (binders + 1) b)
-search_parts env calls ctx count pattern binders (Lam n a b) =
+found_in_parts env calls ctx count pattern binders (Lam n a b) =
     first_in (first_found env calls ctx count pattern binders a) (first_found env calls ctx count pattern (binders + 1) b)
-search_parts env calls ctx count pattern binders (LetIn n a t b) =
+found_in_parts env calls ctx count pattern binders (LetIn n a t b) =
     first_in (first_found env calls ctx count pattern binders a)
     (first_in (first_found env calls ctx count pattern binders t) (first_found env calls ctx count pattern (binders + 1) b))
-search_parts env calls ctx count pattern binders (App f a) =
+found_in_parts env calls ctx count pattern binders (App f a) =
     first_in (first_found env calls ctx count pattern binders f) (first_found env calls ctx count pattern binders a)
 
 -- a term is tried first
-pub search_is : (env : List Slot) (calls : ℕ) (ctx : List Hyp) (count : ℕ) (pattern : Tree) (binders : ℕ) (t : Tree) →
+pub first_found_is : (env : List Slot) (calls : ℕ) (ctx : List Hyp) (count : ℕ) (pattern : Tree) (binders : ℕ) (t : Tree) →
     first_found env calls ctx count pattern binders t
-    ≡ first_in (tried env calls ctx count pattern binders t) (search_parts env calls ctx count pattern binders t)
-search_is env calls ctx count pattern binders (Var i) = refl
-search_is env calls ctx count pattern binders (Sorted s) = refl
-search_is env calls ctx count pattern binders (Constant c) = refl
-search_is env calls ctx count pattern binders (Prod n a b) = refl
-search_is env calls ctx count pattern binders (Lam n a b) = refl
-search_is env calls ctx count pattern binders (LetIn n a t b) = refl
-search_is env calls ctx count pattern binders (App f a) = refl
+    ≡ first_in (tried env calls ctx count pattern binders t) (found_in_parts env calls ctx count pattern binders t)
+first_found_is env calls ctx count pattern binders (Var i) = refl
+first_found_is env calls ctx count pattern binders (Sorted s) = refl
+first_found_is env calls ctx count pattern binders (Constant c) = refl
+first_found_is env calls ctx count pattern binders (Prod n a b) = refl
+first_found_is env calls ctx count pattern binders (Lam n a b) = refl
+first_found_is env calls ctx count pattern binders (LetIn n a t b) = refl
+first_found_is env calls ctx count pattern binders (App f a) = refl
+
+-- so what is tried decides, where it finds something or stops
+pub found_itself : (env : List Slot) (ctx : List Hyp) (count : ℕ) (pattern : Tree) (binders : ℕ) (t : Tree) (f : FuelState) (units : ℕ) (x : Found) →
+    Meets (Ok (Some x)) units (tried_with env ctx count pattern binders t f) → Meets (Ok (Some x)) units (first_found_with env ctx count pattern binders t f)
+found_itself env ctx count pattern binders t f units x met =
+    subst (λ (run : Run (Option Found)). Meets (Ok (Some x)) units (run (left f))) (sym (first_found_is env (calls_left f) ctx count pattern binders t))
+    (after_value (tried env (calls_left f) ctx count pattern binders t) (or_later (found_in_parts env (calls_left f) ctx count pattern binders t)) (left f) units
+    (Some x) (Ok (Some x)) units met.0 met.1 (refl, refl))
+
+pub stopped_itself : (env : List Slot) (ctx : List Hyp) (count : ℕ) (pattern : Tree) (binders : ℕ) (t : Tree) (f : FuelState) (units : ℕ) (stop : Stop) →
+    Meets (Err stop) units (tried_with env ctx count pattern binders t f) → Meets (Err stop) units (first_found_with env ctx count pattern binders t f)
+stopped_itself env ctx count pattern binders t f units stop met =
+    subst (λ (run : Run (Option Found)). Meets (Err stop) units (run (left f))) (sym (first_found_is env (calls_left f) ctx count pattern binders t))
+    (after_stop (tried env (calls_left f) ctx count pattern binders t) (or_later (found_in_parts env (calls_left f) ctx count pattern binders t)) (left f) units stop met)
 
 -- values that are unset
 value_unset : (by i : ℕ) → value_at (unset_values by) i ≡ None
@@ -106,17 +126,28 @@ lowered_fits values t by e is =
     subst (λ (vs : Values). within_limits (fill vs t 0) ≡ Ok (fill vs t 0)) (sym e)
     (subst (λ (u : Tree). within_limits u ≡ Ok u) (sym (fill_unset t by 0)) (lower_fits t by is))
 
+large_by : (fitting : Result Tree TermStop) (u : Tree) → fitting ≡ Ok u → Gives {A = Tree} (Err TooLarge) fitting → ⊥
+large_by fitting u e gives = absurd (cc)
+
+pub never_large : (values : Values) (t : Tree) (by : ℕ) (result : Result Tree TermStop) → values ≡ unset_values by → IsTerm t →
+    Gives result (within_limits (fill values t 0)) → result ≡ Err TooLarge → ⊥
+never_large values t by result e is gives large =
+    large_by (within_limits (fill values t 0)) (fill values t 0) (lowered_fits values t by e is)
+    (subst (λ (r : Result Tree TermStop). Gives r (within_limits (fill values t 0))) large gives)
+
 -- what is taken out of binders, or that nothing is
 pub lowered_none : (values : Values) (t : Tree) (by : ℕ) → values ≡ unset_values by → has_unset values t 0 ≡ true → None ≡ without_binders t by
 lowered_none values t by e has =
     let bound : has_bound t by 0 ≡ true = sym (has_unset_bound t by 0) ∙ ap (λ (vs : Values). has_unset vs t 0) (sym e) ∙ has in
     ap (λ b. if b then None else Some (lower_of t by 0)) (sym bound)
 
-pub lowered_some : (values : Values) (t u : Tree) (by : ℕ) → values ≡ unset_values by → has_unset values t 0 ≡ false → u ≡ fill values t 0 →
-    Some u ≡ without_binders t by
-lowered_some values t u by e has made =
+pub lowered_some : (values : Values) (t u : Tree) (by : ℕ) → values ≡ unset_values by → has_unset values t 0 ≡ false → IsTerm t →
+    Ok u ≡ within_limits (fill values t 0) → Some u ≡ without_binders t by
+lowered_some values t u by e has is made =
     let free : has_bound t by 0 ≡ false = sym (has_unset_bound t by 0) ∙ ap (λ (vs : Values). has_unset vs t 0) (sym e) ∙ has in
-    let lowered : u ≡ lower_of t by 0 = made ∙ ap (λ (vs : Values). fill vs t 0) e ∙ fill_unset t by 0 in
+    let both = lowered_fits values t by e is in
+    let filled : u ≡ fill values t 0 = cc in
+    let lowered : u ≡ lower_of t by 0 = filled ∙ ap (λ (vs : Values). fill vs t 0) e ∙ fill_unset t by 0 in
     ap Some lowered ∙ ap (λ b. if b then None else Some (lower_of t by 0)) (sym free)
 
 scoped_by : (b : Bool) (n m by : ℕ) (t u : Tree) → has_bound t by 0 ≡ b → (if b then None else Some (lower_of t by 0)) ≡ Some u →

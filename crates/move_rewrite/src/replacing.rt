@@ -3,7 +3,7 @@ ghost use Rattle.std.specs.Prelude.{◌≡◌, ◌+◌, ◌^◌, ◌≤◌, IfOk
 ghost use Rattle.core_term.specs.Answers.{within_limits, Gives};
 ghost use Rattle.core_term.specs.Places.{lift_of};
 ghost use Rattle.core_term.specs.Tree.{free_bound, depth_of, same_tree};
-ghost use Rattle.move_rewrite.specs.Replacement.{abstracted as the_abstracted};
+ghost use Rattle.move_rewrite.specs.Replacement.{abstracted as the_abstracted, abstracted_parts as the_abstracted_parts};
 
 use crate::arguments::lifted;
 use base_core::NoMem;
@@ -27,6 +27,7 @@ pub(crate) fn with_new_variable(alloc: Global, u: &Term, t: &Term) -> Result<Ter
 
 /// A term under so many binders with a new variable, the newest outside of them, in place of each subterm that is u,
 /// which stands outside of the binders too.
+#[cycle(new_variables)]
 fn abstracted(
     alloc: Global,
     u: &Term,
@@ -41,6 +42,22 @@ fn abstracted(
     if is_here(alloc, u, t, binders)? {
         return Term::var(alloc, binders);
     }
+    abstracted_parts(alloc, u, t, binders)
+}
+
+/// The same of a term that is not u itself.
+#[cycle(new_variables)]
+fn abstracted_parts(
+    alloc: Global,
+    u: &Term,
+    t: &Term,
+    binders: u32,
+) -> Result<Term, TermStop>
+    requires room { binders + depth_of t.now ≤ 1000 }
+    requires subterm { free_bound u.now ≤ 2 ^ 31 }
+    requires term { free_bound t.now ≤ 2 ^ 31 + binders }
+    ensures { Gives result (within_limits (the_abstracted_parts u.now t.now binders)) }
+{
     let node = match t.node() {
         Node::Var(i) => Node::Var(if binders <= *i { *i + 1 } else { *i }),
         Node::Sorted(s) => Node::Sorted(*s),
