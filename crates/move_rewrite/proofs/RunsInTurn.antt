@@ -41,7 +41,7 @@ argument_made env ctx values count t n a b function x f g result units is first 
     let same : calls_left g ≡ calls_left f = ap (λ nesting. 2000 - nesting) kept.nesting in
     let rest : Partial Goal → Run (Partial Goal) = (λ y. with_arguments env (calls_left f) ctx values (count - 1) b (Applies function y)) in
     let later : Meets result units (rest x (left g)) =
-        subst (λ calls. Meets result units (with_arguments env calls ctx values (count - 1) b (Applies function x) (left g))) same met in
+    subst (λ calls. Meets result units (with_arguments env calls ctx values (count - 1) b (Applies function x) (left g))) same met in
     subst (λ (u : Tree). Meets result units (arguments_with env ctx values count u function f)) (sym is)
     (after_value (argument env (calls_left f) ctx values count a (nat_lt 0 (occurrences b 0))) rest (left f) (left g) x result units first.0 first.1 later)
 

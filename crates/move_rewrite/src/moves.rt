@@ -34,7 +34,9 @@ pub fn run_rewrite<J: Judge>(
 {
     match form {
         MoveForm::Rewrite {
-            direction, term, ..
+            direction,
+            term,
+            ..
         } => by_rewrite(judge, alloc, env, goal, *direction, term, fuel),
         MoveForm::Intro { .. } => Err(refusal(NOT_BUILT)),
         MoveForm::Intros { .. } => Err(refusal(NOT_BUILT)),

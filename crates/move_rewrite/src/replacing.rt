@@ -28,12 +28,7 @@ pub(crate) fn with_new_variable(alloc: Global, u: &Term, t: &Term) -> Result<Ter
 /// A term under so many binders with a new variable, the newest outside of them, in place of each subterm that is u,
 /// which stands outside of the binders too.
 #[cycle(new_variables)]
-fn abstracted(
-    alloc: Global,
-    u: &Term,
-    t: &Term,
-    binders: u32,
-) -> Result<Term, TermStop>
+fn abstracted(alloc: Global, u: &Term, t: &Term, binders: u32) -> Result<Term, TermStop>
     requires room { binders + depth_of t.now ≤ 1000 }
     requires subterm { free_bound u.now ≤ 2 ^ 31 }
     requires term { free_bound t.now ≤ 2 ^ 31 + binders }
@@ -47,12 +42,7 @@ fn abstracted(
 
 /// The same of a term that is not u itself.
 #[cycle(new_variables)]
-fn abstracted_parts(
-    alloc: Global,
-    u: &Term,
-    t: &Term,
-    binders: u32,
-) -> Result<Term, TermStop>
+fn abstracted_parts(alloc: Global, u: &Term, t: &Term, binders: u32) -> Result<Term, TermStop>
     requires room { binders + depth_of t.now ≤ 1000 }
     requires subterm { free_bound u.now ≤ 2 ^ 31 }
     requires term { free_bound t.now ≤ 2 ^ 31 + binders }

@@ -58,7 +58,9 @@ pub(crate) fn first_found<J: Judge>(
             domain,
             codomain,
             ..
-        } => match first_found(judge, alloc, env, ctx, count, pattern, binders, domain, fuel) {
+        } => match first_found(
+            judge, alloc, env, ctx, count, pattern, binders, domain, fuel,
+        ) {
             Ok(Some(found)) => Ok(Some(found)),
             Ok(None) => first_found(
                 judge,
@@ -74,7 +76,9 @@ pub(crate) fn first_found<J: Judge>(
             Err(stop) => Err(stop),
         },
         Node::Lam { domain, body, .. } => {
-            match first_found(judge, alloc, env, ctx, count, pattern, binders, domain, fuel) {
+            match first_found(
+                judge, alloc, env, ctx, count, pattern, binders, domain, fuel,
+            ) {
                 Ok(Some(found)) => Ok(Some(found)),
                 Ok(None) => first_found(
                     judge,
@@ -97,7 +101,9 @@ pub(crate) fn first_found<J: Judge>(
             ..
         } => match first_found(judge, alloc, env, ctx, count, pattern, binders, ty, fuel) {
             Ok(Some(found)) => Ok(Some(found)),
-            Ok(None) => match first_found(judge, alloc, env, ctx, count, pattern, binders, value, fuel) {
+            Ok(None) => match first_found(
+                judge, alloc, env, ctx, count, pattern, binders, value, fuel,
+            ) {
                 Ok(Some(found)) => Ok(Some(found)),
                 Ok(None) => first_found(
                     judge,
@@ -115,7 +121,9 @@ pub(crate) fn first_found<J: Judge>(
             Err(stop) => Err(stop),
         },
         Node::App { function, argument } => {
-            match first_found(judge, alloc, env, ctx, count, pattern, binders, function, fuel) {
+            match first_found(
+                judge, alloc, env, ctx, count, pattern, binders, function, fuel,
+            ) {
                 Ok(Some(found)) => Ok(Some(found)),
                 Ok(None) => first_found(
                     judge, alloc, env, ctx, count, pattern, binders, argument, fuel,
@@ -179,9 +187,7 @@ fn matched<J: Judge>(
     ensures kept { IsSpentOf fuel.old fuel.new }
 {
     let unset = Values::unset(alloc, count)?;
-    match match_terms(
-        judge, alloc, env, ctx, 0, pattern, &subterm, unset, fuel,
-    ) {
+    match match_terms(judge, alloc, env, ctx, 0, pattern, &subterm, unset, fuel) {
         Ok(Some(values)) => Ok(Some(Found { subterm, values })),
         Ok(None) => Ok(None),
         Err(stop) => Err(stop),
@@ -196,7 +202,8 @@ fn same_head(count: u32, binders: u32, pattern: &Term, t: &Term) -> bool
     match pattern.node() {
         Node::App { function, .. } => match t.node() {
             Node::App {
-                function: other, ..
+                function: other,
+                ..
             } => same_head(count, binders, function, other),
             _ => false,
         },

@@ -46,11 +46,7 @@ pub(crate) fn rewritten_by(
     let turned = turned(alloc, env, ctx, direction, equation, proof)?;
     let side = pattern_of(direction, equation).share()?;
     let ctx = ctx.share()?;
-    let shown = Sketch::app(
-        alloc,
-        Sketch::ready(at),
-        Sketch::hole(Goal { ctx, ty }),
-    )?;
+    let shown = Sketch::app(alloc, Sketch::ready(at), Sketch::hole(Goal { ctx, ty }))?;
     let at_side = Sketch::app(alloc, shown, Sketch::ready(side))?;
     Ok(Sketch::app(alloc, at_side, turned)?)
 }
