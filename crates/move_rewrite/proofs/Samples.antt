@@ -1,14 +1,13 @@
 -- Worked rewritings in the first state, proved by computation: each from 1000 units.
-use Rattle.std.specs.Prelude.{◌≡◌, ℕ, List, [], ◌∷◌, Some, Result, Ok, Err, refl, codes}
+use Rattle.std.specs.Prelude.{◌≡◌, ℕ, List, [], ◌∷◌, Result, Ok, Err, refl, codes}
 use Rattle.base_core.specs.declared.refusals.Stop.{Stop}
 use Rattle.coq_syntax.specs.declared.moves.Direction.{Direction}
 use Rattle.coq_syntax.specs.declared.moves.Direction.TheVariants.{Unmarked, Forward, Backward}
 use Rattle.coq_syntax.specs.declared.words.TokenPlace.{TokenPlace}
-use Rattle.coq_syntax.specs.declared.words.Word.{Word}
 use Rattle.coq_syntax.specs.MoveTrees.{Move, Rewrite}
 use Rattle.coq_syntax.specs.MoveTrees as move
 use Rattle.coq_syntax.specs.Trees as tree
-use Rattle.core_term.specs.declared.sorts.Sort.TheVariants.{PropSort, SetSort, TypeSort}
+use Rattle.core_term.specs.declared.sorts.Sort.TheVariants.{SetSort, TypeSort}
 use Rattle.core_term.specs.Tree.{Tree, Var, Sorted, Constant, Prod, Lam, App}
 use Rattle.cic_rules.specs.declared.context.Hyp.{Hyp}
 use Rattle.cic_rules.specs.declared.env.Slot.{Slot}

@@ -1,6 +1,6 @@
 -- The sides of an equation: what stands in scope.
 use Rattle.std.specs.Prelude.{◌≡◌, ◌==◌, ◌<◌, ◌≤◌, ◌||◌, ℕ, suc, ◌+◌, ◌-◌, ◌^◌, List, length, Bool, true, false, Option, Some, None, refl, if◌then◌else◌, codes}
-use Rattle.std.proofs.Common.{subst, sym, ap, arith}
+use Rattle.std.proofs.Common.{subst, sym, arith}
 use Rattle.std.proofs.lemmas.Bool.{or_parts}
 use Rattle.coq_syntax.specs.declared.moves.Direction.{Direction}
 use Rattle.coq_syntax.specs.declared.moves.Direction.TheVariants.{Unmarked, Forward, Backward}

@@ -1,12 +1,12 @@
 -- Subterms: the search for one, and terms taken out of binders by values that are unset.
-use Rattle.std.specs.Prelude.{◌≡◌, ℕ, zero, suc, ◌+◌, ◌-◌, ◌^◌, ◌<◌, ◌≤◌, ◌||◌, nat_le, nat_lt, List, length, Bool, true, false, Option, Some, None, Result, Ok, Err, refl, slice_get, if◌then◌else◌}
+use Rattle.std.specs.Prelude.{◌≡◌, ℕ, zero, suc, ◌+◌, ◌-◌, nat_le, nat_lt, List, length, Bool, true, false, Option, Some, None, Result, Ok, Err, refl, slice_get, if◌then◌else◌}
 use Rattle.std.proofs.Common.{subst, sym, ap, ◌∙◌, arith}
 use Rattle.std.proofs.lemmas.Bool.Decides.{nat_tests}
 use Rattle.base_core.specs.declared.refusals.Stop.{Stop}
 use Rattle.core_term.specs.Answers.{within_limits, Gives}
 use Rattle.core_term.specs.declared.stops.TermStop.{TermStop}
 use Rattle.core_term.specs.declared.stops.TermStop.TheVariants.{TooLarge}
-use Rattle.core_term.specs.Tree.{Tree, Var, Sorted, Constant, Prod, Lam, LetIn, App, IsTerm, IsNumbered, is_small}
+use Rattle.core_term.specs.Tree.{Tree, Var, Sorted, Constant, Prod, Lam, LetIn, App, IsTerm, IsNumbered}
 use Rattle.cic_rules.specs.declared.context.Hyp.{Hyp}
 use Rattle.cic_rules.specs.declared.env.Slot.{Slot}
 use Rattle.cic_rules.specs.Fuel.{FuelState, left, calls_left}
@@ -14,13 +14,13 @@ use Rattle.cic_rules.specs.Judges.{Meets}
 use Rattle.cic_rules.specs.Runs.{Run, pure}
 use Rattle.cic_rules.specs.Scopes.{IsScoped}
 use Rattle.matching.specs.Lowering.{has_bound, lower_of, without_binders}
-use Rattle.matching.specs.Patterns.{Values, unset_values, value_at, value_in, is_open, has_unset, filled_variable, fill}
-use Rattle.matching.specs.Scopes.{AreValues, Finds}
+use Rattle.matching.specs.Patterns.{Values, unset_values, value_at, is_open, has_unset, filled_variable, fill}
+use Rattle.matching.specs.Scopes.{Finds}
 use Rattle.matching.proofs.Lowerings.{lower_fits, lower_scoped}
 use Rattle.move_basic.proofs.Arguments.{unset_count}
 use Rattle.move_rewrite.specs.declared.searching.Found.{Found}
 use Rattle.move_rewrite.specs.Calls.{tried_with, first_found_with}
-use Rattle.move_rewrite.specs.Scopes.{IsFound, IsFoundFor}
+use Rattle.move_rewrite.specs.Scopes.{IsFoundFor}
 use Rattle.move_rewrite.proofs.RunsInTurn.{after_value, after_stop}
 use Rattle.move_rewrite.specs.Search.{or_later, first_in, tried, first_found}
 

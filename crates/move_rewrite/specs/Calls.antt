@@ -1,5 +1,5 @@
 -- Rows that calls of their own answer, on some fuel: with its units, and with so many more judgements in one another.
-use Rattle.std.specs.Prelude.{ℕ, List, Bool, Option}
+use Rattle.std.specs.Prelude.{ℕ, List, Option}
 use Rattle.coq_syntax.specs.declared.moves.Direction.{Direction}
 use Rattle.coq_syntax.specs.MoveTrees.{Move}
 use Rattle.coq_syntax.specs.Trees.{Term}

@@ -1,7 +1,7 @@
 -- Equations that goals are rewritten by, and the sides of one.
 use Rattle.std.specs.Prelude.{ℕ, ◌==◌, nat_lt, List, Bool, false, ◌||◌, Option, Some, None, if◌then◌else◌, codes}
 use Rattle.coq_syntax.specs.declared.moves.Direction.{Direction}
-use Rattle.coq_syntax.specs.declared.moves.Direction.TheVariants.{Unmarked, Forward, Backward}
+use Rattle.coq_syntax.specs.declared.moves.Direction.TheVariants.{Backward}
 use Rattle.core_term.specs.Tree.{Tree, Var, Constant, App}
 use Rattle.cic_rules.specs.declared.env.Slot.{Slot}
 use Rattle.cic_rules.specs.Environments.{place_in}

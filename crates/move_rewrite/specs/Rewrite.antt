@@ -1,5 +1,5 @@
 -- `rewrite`: all subterms that are one side of an equation become the other.
-use Rattle.std.specs.Prelude.{ℕ, ◌==◌, List, Option, Some, None, if◌then◌else◌, codes}
+use Rattle.std.specs.Prelude.{ℕ, ◌==◌, List, Option, None, if◌then◌else◌, codes}
 use Rattle.base_core.specs.declared.refusal_codes.TheConstants.{NOT_DETERMINED, NOT_PERMITTED, NO_SUBTERM, VARIABLE_HEAD, NOT_AN_EQUATION}
 use Rattle.coq_syntax.specs.declared.moves.Direction.{Direction}
 use Rattle.core_term.specs.declared.sorts.Sort.{Sort}

@@ -1,7 +1,7 @@
 -- The term for a goal that is rewritten.
 use Rattle.std.specs.Prelude.{ℕ, List, Ok, codes}
 use Rattle.coq_syntax.specs.declared.moves.Direction.{Direction}
-use Rattle.coq_syntax.specs.declared.moves.Direction.TheVariants.{Unmarked, Forward, Backward}
+use Rattle.coq_syntax.specs.declared.moves.Direction.TheVariants.{Backward}
 use Rattle.core_term.specs.Tree.{Tree, Var, Constant, Lam, App}
 use Rattle.core_term.specs.Places.{subst_of}
 use Rattle.term_spine.specs.Spine.{shift}

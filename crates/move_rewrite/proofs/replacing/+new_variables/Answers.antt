@@ -1,4 +1,4 @@
-use Rattle.std.proofs.Common.{rules, sym, ap, ◌∙◌}
+use Rattle.std.proofs.Common.{rules}
 use Rattle.move_rewrite.proofs.Replacements.{here_gives, parts_give}
 use Rattle.move_rewrite.proofs.replacing.+new_variables.Goals as goal
 
