@@ -12,4 +12,4 @@ mod unfold_move;
 mod unfolding;
 
 pub use laws::law_of_fuel;
-pub use moves::run_compute;
+pub use moves::by_unfold;
