@@ -51,7 +51,8 @@ fn index_values(
     requires by { by ≤ site.now.depth }
     requires places { AreBefore (site.now.depth - by) places.now }
     requires shallow { AreShallow 1000 values }
-    ensures values { IfOk result (λ vs. vs ≡ newest_first (the_index_values by places.now (placed_all site.now args.now)) values) }
+    ensures values { let given = the_index_values by places.now (placed_all site.now args.now) in
+        IfOk result (λ vs. vs ≡ newest_first given values) }
     ensures shallow { IfOk result (AreShallow 1000) }
 {
     match places.split_first() {
