@@ -105,7 +105,7 @@ placed_numbered globals s t may is =
     instantiate_numbered (values_at s.depth s.levels) t 0 s.depth 1 (values_over s.depth s.levels may.site.above) (values_shallow s.depth s.levels)
     (omega (arith, few, same)) (omega (arith, room, shallow))
 
-values_scoped : (globals depth : ℕ) (ls : List ℕ) → AreBefore depth ls → AreScoped depth globals (values_at depth ls)
+pub values_scoped : (globals depth : ℕ) (ls : List ℕ) → AreBefore depth ls → AreScoped depth globals (values_at depth ls)
 values_scoped globals depth [] h = tt
 values_scoped globals depth (l ∷ ls) h = let lt = h.0 in (omega (arith, lt), values_scoped globals depth ls h.1)
 
@@ -116,11 +116,11 @@ placed_scoped globals s t may =
     (values_scoped globals s.depth s.levels may.site.above)
 
 -- sites below further binders
-before_more : (depth : ℕ) (ls : List ℕ) → AreBefore depth ls → AreBefore (depth + 1) ls
+pub before_more : (depth : ℕ) (ls : List ℕ) → AreBefore depth ls → AreBefore (depth + 1) ls
 before_more depth [] h = tt
 before_more depth (l ∷ ls) h = let lt = h.0 in (omega (arith, lt), before_more depth ls h.1)
 
-before_set : (depth i : ℕ) (ls : List ℕ) → AreBefore depth ls → AreBefore (depth + 1) (slice_set ls i depth)
+pub before_set : (depth i : ℕ) (ls : List ℕ) → AreBefore depth ls → AreBefore (depth + 1) (slice_set ls i depth)
 before_set depth i [] h = tt
 before_set depth zero (l ∷ ls) h = (omega arith, before_more depth ls h.1)
 before_set depth (suc i) (l ∷ ls) h = let lt = h.0 in (omega (arith, lt), before_set depth i ls h.1)
@@ -134,7 +134,7 @@ is_with_binder s is room = record { above = before_more s.depth s.levels is.abov
 pub is_standing : (i : ℕ) (s : Site) → IsSite s → s.depth + 1 ≤ 2 ^ 31 + 3000 → IsSite (stand_for i s)
 is_standing i s is room = record { above = before_set s.depth i s.levels is.above; room = room }
 
-levels_before : (n : ℕ) → AreBefore n (levels_of n)
+pub levels_before : (n : ℕ) → AreBefore n (levels_of n)
 levels_before zero = tt
 levels_before (suc n) =
     let up : n + 1 ≡ suc n = omega arith in

@@ -27,9 +27,12 @@ abbrev pub hole : List Hyp → Tree → Partial Goal
 hole ctx ty = Hole (record { ctx = ctx; ty = ty })
 
 -- what the hypothesis of a recursive argument says, under the argument's own products
-abbrev pub hypothesis : Claim → Site → Tree → Tree → Tree
-hypothesis c s x (Prod n a b) = Prod n (placed s a) (hypothesis c (with_variable s) (eta_body x) b)
-hypothesis c s x t = claim_at c s.depth (placed_all s (indices c.params t)) x
+abbrev pub hypothesis : Claim → Site → Tree → Tree → Step Tree
+hypothesis c s x (Prod n a b) = do
+  deeper ← sized (eta_body x)
+  body ← hypothesis c (with_variable s) deeper b
+  sized (Prod n (placed s a) body)
+hypothesis c s x t = sized (claim_at c s.depth (placed_all s (indices c.params t)) x)
 
 -- a function over a hypothesis, or a let for one that has a definition
 abbrev pub over_binder : List ℕ → Tree → Option Tree → Partial Goal → Partial Goal
@@ -55,27 +58,32 @@ introduced count ctx t = Ok (hole ctx t)
 abbrev pub introduced_behind : ℕ → List Hyp → Hyp → Tree → Step (Partial Goal)
 introduced_behind count ctx h under = behind_hyp ctx h (λ inner. introduced count inner under)
 
--- behind one more argument, to which the constructor is applied, and behind one more hypothesis
-abbrev pub past_argument : Walk → List Hyp → Tree → List ℕ → Walk
-past_argument w inner built n = record { site = with_variable w.site; ctx = inner; built = built; names = with_shown n w.names }
+-- behind one more argument of this name and type, to which the constructor is applied
+abbrev pub past_argument : Walk → List ℕ → Tree → Step Walk
+past_argument w n ty = do
+  inner ← entered w.ctx (plain_hyp n ty)
+  built ← sized (eta_body w.built)
+  Ok (record { site = with_variable w.site; ctx = inner; built = built; names = with_shown n w.names })
 
-abbrev pub past_hypothesis : Walk → List Hyp → List ℕ → Walk
-past_hypothesis w inner n = record { site = with_binder w.site; ctx = inner; built = shift w.built; names = with_shown n w.names }
+-- .. and behind one more hypothesis
+abbrev pub past_hypothesis : Walk → List ℕ → Tree → Step Walk
+past_hypothesis w n ty = do
+  inner ← entered w.ctx (plain_hyp n ty)
+  Ok (record { site = with_binder w.site; ctx = inner; built = shift w.built; names = with_shown n w.names })
 
 -- an argument of this name and type, and the rest behind it
 abbrev pub under_argument : Walk → List ℕ → Tree → (Walk → Step (Partial Goal)) → Step (Partial Goal)
 under_argument w n a rest = do
-  inner ← entered w.ctx (plain_hyp n (placed w.site a))
-  built ← sized (eta_body w.built)
-  s ← rest (past_argument w inner built n)
+  inner ← past_argument w n (placed w.site a)
+  s ← rest inner
   Ok (Abstracts n (placed w.site a) s)
 
 -- a hypothesis of this name that says this, and the rest behind it
-abbrev pub under_hypothesis : Walk → List ℕ → Tree → (Walk → Step (Partial Goal)) → Step (Partial Goal)
+abbrev pub under_hypothesis : Walk → List ℕ → Step Tree → (Walk → Step (Partial Goal)) → Step (Partial Goal)
 under_hypothesis w n says rest = do
-  ty ← sized says
-  inner ← entered w.ctx (plain_hyp n ty)
-  s ← rest (past_hypothesis w inner n)
+  ty ← says
+  inner ← past_hypothesis w n ty
+  s ← rest inner
   Ok (Abstracts n ty s)
 
 -- the name of a recursive argument's hypothesis: `IH` and the argument's name, where none is given, and none outside an induction
@@ -94,12 +102,15 @@ module _ (induction : Bool) (env : List Slot) (c : Claim) where
   abbrev pub name_of_argument : Walk → List Given → List ℕ → Tree → List ℕ
   name_of_argument w given n a = next_name given (automatic env w.names n (placed w.site a))
 
-  -- .. and of its hypothesis, and then the rest
+  -- the rest behind the hypothesis of an argument, where that is recursive
+  abbrev pub behind_hypothesis : Bool → Walk → Walk → List Given → List ℕ → Tree → (Walk → Step (Partial Goal)) → Step (Partial Goal)
+  behind_hypothesis false w inner given n a rest = rest inner
+  behind_hypothesis true w inner given n a rest =
+      under_hypothesis inner (name_of_hypothesis induction inner.names (behind_next given) n) (hypothesis c (with_binder w.site) (Var 0) a) rest
+
+  -- an argument, and its hypothesis, and then the rest
   abbrev pub behind_argument : Bool → Walk → List Given → List ℕ → Tree → (Walk → Step (Partial Goal)) → Step (Partial Goal)
-  behind_argument false w given n a rest = under_argument w n a rest
-  behind_argument true w given n a rest =
-      under_argument w n a
-      (λ inner. under_hypothesis inner (name_of_hypothesis induction inner.names (behind_next given) n) (hypothesis c (with_binder w.site) (Var 0) a) rest)
+  behind_argument recursive w given n a rest = under_argument w n a (λ inner. behind_hypothesis recursive w inner given n a rest)
 
   -- a case from an argument on, by which of the arguments are recursive
   abbrev pub case_from : Walk → List Given → List Bool → Tree → Step (Partial Goal)
@@ -111,7 +122,7 @@ module _ (induction : Bool) (env : List Slot) (c : Claim) where
   abbrev pub case_of : Subject → List Hyp → List (List ℕ) → ℕ → Ctor → List Bool → List Given → Step (Partial Goal)
   case_of x hidden names index ctor flags given = do
     ty ← sized (instantiate x.params ctor.ty)
-    built ← sized (at_params (x.place + 1 + index) x)
+    built ← at_params (x.place + 1 + index) x
     case_from (record { site = own_site c.below; ctx = hidden; built = built; names = with_given names given }) given flags ty
 
   -- a function applied to the cases from a constructor on

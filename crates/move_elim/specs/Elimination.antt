@@ -50,14 +50,17 @@ moved_with ctx x = (marked_from (x.variable ∷ x.indices) 0 ctx).places
 -- the eliminator at the parameters, the motive, the cases, the indices, the value, and then the generalised hypotheses that have no definition
 abbrev pub term_by : Bool → List Slot → List Hyp → InductiveDecl → Subject → ℕ → List (List Given) → List ℕ → Claim → Step (Partial Goal)
 term_by induction env ctx d x eliminator branches moved c = do
-  head ← sized (App (at_params eliminator x) (motive_of d x c.body))
+  motive ← motive_of d x c.body
+  function ← at_params eliminator x
+  head ← sized (App function motive)
   s ← with_cases induction env c x (hidden ctx (x.variable ∷ moved)) (names_without ctx x.variable) 0 d.ctors (recursive_in x.place d.ctors) branches (Ready head)
   Ok (with_variables s (x.indices ++ (x.variable ∷ plain_places ctx moved)))
 
 -- .. for the hypotheses at some places
 abbrev pub term_with : Bool → List Slot → List Hyp → Tree → InductiveDecl → Subject → ℕ → List (List Given) → List ℕ → Step (Partial Goal)
-term_with induction env ctx goal d x eliminator branches moved =
-    term_by induction env ctx d x eliminator branches moved (claim_of ctx goal d x moved)
+term_with induction env ctx goal d x eliminator branches moved = do
+  c ← claim_of ctx goal d x moved
+  term_by induction env ctx d x eliminator branches moved c
 
 -- what is asked of the goal, and of the names in the branches
 abbrev pub tested : Bool → List Slot → List Hyp → Tree → InductiveDecl → Subject → Sort → List (List Given) → Step ℕ

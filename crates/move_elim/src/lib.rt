@@ -6,10 +6,13 @@ mod cases;
 mod claims;
 mod elimination;
 mod generalised;
+mod instances;
 mod introduction;
 mod laws;
+mod motives;
 mod refusals;
 mod sites;
 mod subjects;
+mod terms;
 
-pub use laws::law_of_fuel;
+pub use laws::{law_of_fuel, law_of_scopes};

@@ -1,0 +1,11 @@
+pub mod FuelOfRows
+pub mod FuelOfComputations
+pub mod UnfoldLaws
+pub mod UnfoldScopes
+pub mod CallLaws
+pub mod FiringLaws
+pub mod RefoldLaws
+pub mod SimplScopes
+pub mod RefoldingLaws
+pub mod IotaLaws
+pub mod Samples

@@ -1,0 +1,11 @@
+pub mod Cases
+pub mod Firing
+pub mod Refold
+pub mod Scopes
+pub mod Turns
+pub mod Simpl
+pub mod Unfolding
+pub mod Unfold
+pub mod Moves
+pub mod Calls
+pub mod Laws

@@ -1,0 +1,9 @@
+//! Laws of the definitions, for the proofs above this crate. The function does nothing.
+ghost use Rattle.move_compute.specs.Laws.{FuelOfComputations};
+
+/// Under a lower limit a move does the same for as many units, or it ends at the limit of units, and
+/// under the higher one it spends more than the lower. One that ends at the limit of units has none left.
+#[tactic(auto, using(crate::proofs::FuelOfComputations::fuel_of_computations))]
+pub fn law_of_fuel()
+    ensures { FuelOfComputations }
+{}

@@ -1,0 +1,6 @@
+pub mod FuelOfRewriting
+pub mod RunsInTurn
+pub mod Subterms
+pub mod Replacements
+pub mod Sides
+pub mod Samples

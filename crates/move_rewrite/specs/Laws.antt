@@ -1,0 +1,11 @@
+-- Laws of the definitions.
+use Rattle.std.specs.Prelude.{ℕ, List}
+use Rattle.coq_syntax.specs.MoveTrees.{Move}
+use Rattle.cic_rules.specs.declared.env.Slot.{Slot}
+use Rattle.cic_rules.specs.Laws.{KeepsLawOfFuel}
+use Rattle.proof_state.specs.declared.goals.Goal.{Goal}
+use Rattle.move_rewrite.specs.Moves.{run_rewrite}
+
+-- a move under a lower limit
+abbrev pub FuelOfMoves : Type 0
+FuelOfMoves = (env : List Slot) (calls : ℕ) (g : Goal) (m : Move) → KeepsLawOfFuel (run_rewrite env calls g m)

@@ -1,0 +1,10 @@
+pub mod Equations
+pub mod Search
+pub mod Arguments
+pub mod Replacement
+pub mod Terms
+pub mod Rewrite
+pub mod Moves
+pub mod Scopes
+pub mod Calls
+pub mod Laws
