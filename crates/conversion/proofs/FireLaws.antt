@@ -193,7 +193,7 @@ may_build env is vars of i d shape c s m w case few decl told ctor found spine t
       made = scoped_over vars (length env) m.args parts.1;
     }
 
-take_over : (n i : ℕ) (ts : List Tree) → AreOver n ts → AreOver n (take i ts)
+pub take_over : (n i : ℕ) (ts : List Tree) → AreOver n ts → AreOver n (take i ts)
 take_over n zero ts h = tt
 take_over n (suc i) [] h = tt
 take_over n (suc i) (t ∷ ts) h = (h.0, take_over n i ts h.1)
@@ -210,15 +210,15 @@ applied_over n h (t ∷ ts) few all = applied_over n (App h t) ts (omega (arith,
 pub first_over : (n i : ℕ) (h : Tree) (ts : List Tree) → free_bound h ≤ n → AreOver n ts → free_bound (apply_all h (take i ts)) ≤ n
 first_over n i h ts few all = applied_over n h (take i ts) few (take_over n i ts all)
 
-newest_over : (n : ℕ) (ts later : List Tree) → AreOver n ts → AreOver n later → AreOver n (newest_first ts later)
+pub newest_over : (n : ℕ) (ts later : List Tree) → AreOver n ts → AreOver n later → AreOver n (newest_first ts later)
 newest_over n [] later h k = k
 newest_over n (t ∷ ts) later h k = newest_over n ts (t ∷ later) h.1 (h.0, k)
 
-newest_shallow : (n : ℕ) (ts later : List Tree) → AreShallow n ts → AreShallow n later → AreShallow n (newest_first ts later)
+pub newest_shallow : (n : ℕ) (ts later : List Tree) → AreShallow n ts → AreShallow n later → AreShallow n (newest_first ts later)
 newest_shallow n [] later h k = k
 newest_shallow n (t ∷ ts) later h k = newest_shallow n ts (t ∷ later) h.1 (h.0, k)
 
-take_shallow : (n i : ℕ) (ts : List Tree) → AreShallow n ts → AreShallow n (take i ts)
+pub take_shallow : (n i : ℕ) (ts : List Tree) → AreShallow n ts → AreShallow n (take i ts)
 take_shallow n zero ts h = tt
 take_shallow n (suc i) [] h = tt
 take_shallow n (suc i) (t ∷ ts) h = (h.0, take_shallow n i ts h.1)
@@ -229,11 +229,11 @@ args_shallow n h (t ∷ ts) le =
     let whole = depth_applied (App h t) ts in
     (omega (arith, whole, le), args_shallow n (App h t) ts le)
 
-newest_count : (ts later : List Tree) → length (newest_first ts later) ≡ length ts + length later
+pub newest_count : (ts later : List Tree) → length (newest_first ts later) ≡ length ts + length later
 newest_count [] later = omega arith
 newest_count (t ∷ ts) later = let rest = newest_count ts (t ∷ later) in omega (arith, rest)
 
-take_count : (i : ℕ) (ts : List Tree) → i ≤ length ts → length (take i ts) ≡ i
+pub take_count : (i : ℕ) (ts : List Tree) → i ≤ length ts → length (take i ts) ≡ i
 take_count zero ts le = refl
 take_count (suc i) [] le = absurd (omega (arith, le))
 take_count (suc i) (t ∷ ts) le = ap suc (take_count i ts (omega (arith, le)))

@@ -13,12 +13,12 @@ use Rattle.cic_rules.specs.Contexts.{AreHyps, IsInIfAny}
 pub lift_fits : (t : Tree) (by : ℕ) → IsTerm t → within_limits (lift_of t by 0) ≡ Ok (lift_of t by 0)
 lift_fits t by is = bounded-lifted t by 0 is
 
-pub lift_numbered : (t : Tree) (by : ℕ) → IsTerm t → free_bound t + by ≤ 2 ^ 31 + 3000 → IsNumbered (lift_of t by 0)
+pub lift_numbered : (t : Tree) (by : ℕ) → IsTerm t → free_bound t + by ≤ 2 ^ 31 + 5000 → IsNumbered (lift_of t by 0)
 lift_numbered t by is few =
     let free = free_bound-lifted t by 0 in
     let deep = depth-lifted t by 0 in
     let shallow = is.shallow in
-    numbered (lift_of t by 0) (2 ^ 31 + 3000) (omega (arith, free, few)) (omega (arith, deep, shallow))
+    numbered (lift_of t by 0) (2 ^ 31 + 5000) (omega (arith, free, few)) (omega (arith, deep, shallow))
 
 bound_is : (n : ℕ) (value : Option Tree) (v : Tree) → value ≡ Some v → IsInIfAny n value → free_bound v ≤ n
 bound_is n None v e h = cc

@@ -232,26 +232,26 @@ pub argument_scoped : (n m : ℕ) (h : Tree) (args : List Tree) (i : ℕ) (t : T
 argument_scoped n m h args i t found is = scoped_get n m i args t found (scoped_apart n m h args is).1
 
 -- the parts of a head that applies to arguments
-pub lam_body : (n m : ℕ) (h : Tree) (args : List Tree) (k : List ℕ) (a b : Tree) → h ≡ Lam k a b → n ≤ 2 ^ 31 → IsScoped n m (apply_all h args) →
-    free_bound b ≤ 2 ^ 31 + 1
+pub lam_body : (n m : ℕ) (h : Tree) (args : List Tree) (k : List ℕ) (a b : Tree) → h ≡ Lam k a b → n ≤ 2 ^ 31 + 2000 → IsScoped n m (apply_all h args) →
+    free_bound b ≤ 2 ^ 31 + 2001
 lam_body n m h args k a b e few is =
     let parts : IsScoped n m (Lam k a b) = subst (IsScoped n m) e (scoped_apart n m h args is).0 in
     let free = scoped_free (suc n) m b parts.1 in omega (arith, free, few)
 
-pub first_bound : (n m : ℕ) (h : Tree) (args : List Tree) (v : Tree) (rest : List Tree) → args ≡ v ∷ rest → n ≤ 2 ^ 31 → IsScoped n m (apply_all h args) →
-    free_bound v ≤ 2 ^ 31
+pub first_bound : (n m : ℕ) (h : Tree) (args : List Tree) (v : Tree) (rest : List Tree) → args ≡ v ∷ rest → n ≤ 2 ^ 31 + 2000 → IsScoped n m (apply_all h args) →
+    free_bound v ≤ 2 ^ 31 + 2000
 first_bound n m h args v rest e few is =
     let parts : AreScoped n m (v ∷ rest) = subst (AreScoped n m) e (scoped_apart n m h args is).1 in
     let free = scoped_free n m v parts.0 in omega (arith, free, few)
 
-pub let_body : (n m : ℕ) (h : Tree) (args : List Tree) (k : List ℕ) (a t b : Tree) → h ≡ LetIn k a t b → n ≤ 2 ^ 31 → IsScoped n m (apply_all h args) →
-    free_bound b ≤ 2 ^ 31 + 1
+pub let_body : (n m : ℕ) (h : Tree) (args : List Tree) (k : List ℕ) (a t b : Tree) → h ≡ LetIn k a t b → n ≤ 2 ^ 31 + 2000 → IsScoped n m (apply_all h args) →
+    free_bound b ≤ 2 ^ 31 + 2001
 let_body n m h args k a t b e few is =
     let parts : IsScoped n m (LetIn k a t b) = subst (IsScoped n m) e (scoped_apart n m h args is).0 in
     let free = scoped_free (suc n) m b parts.2 in omega (arith, free, few)
 
-pub let_value : (n m : ℕ) (h : Tree) (args : List Tree) (k : List ℕ) (a t b : Tree) → h ≡ LetIn k a t b → n ≤ 2 ^ 31 → IsScoped n m (apply_all h args) →
-    free_bound t ≤ 2 ^ 31
+pub let_value : (n m : ℕ) (h : Tree) (args : List Tree) (k : List ℕ) (a t b : Tree) → h ≡ LetIn k a t b → n ≤ 2 ^ 31 + 2000 → IsScoped n m (apply_all h args) →
+    free_bound t ≤ 2 ^ 31 + 2000
 let_value n m h args k a t b e few is =
     let parts : IsScoped n m (LetIn k a t b) = subst (IsScoped n m) e (scoped_apart n m h args is).0 in
     let free = scoped_free n m t parts.1 in omega (arith, free, few)

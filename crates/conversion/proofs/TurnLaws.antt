@@ -38,11 +38,11 @@ too_poor units l k t poor is =
     let unpaid : nat_le units l ≡ false = grind (arith, nat_tests) in
     rw unpaid (refl, omega (arith, poor, is))
 
-pub subst_numbered : (t v : Tree) → IsTerm t → IsTerm v → free_bound t ≤ 2 ^ 31 + 1 → free_bound v ≤ 2 ^ 31 → IsNumbered (subst_of t v 0)
+pub subst_numbered : (t v : Tree) → IsTerm t → IsTerm v → free_bound t ≤ 2 ^ 31 + 2001 → free_bound v ≤ 2 ^ 31 + 2000 → IsNumbered (subst_of t v 0)
 subst_numbered t v is also few more =
     let shallow = is.shallow in
     let other = also.shallow in
-    numbered-substituted t v 0 (2 ^ 31) (omega arith) few more (omega (arith, shallow, other))
+    numbered-substituted t v 0 (2 ^ 31 + 2000) (omega arith) few more (omega (arith, shallow, other))
 
 too_large : (t : Tree) → Gives {A = Tree} (Err TooLarge) (within_limits t) → is_small t ≡ false
 too_large t gives =

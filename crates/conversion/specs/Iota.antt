@@ -31,7 +31,7 @@ pub record MayPutIn (vars : ℕ) (values : List Tree) (ty : Tree) : Type 0 where
   pub over : AreOver vars values
   pub shallow : AreShallow 1000 values
   pub few : free_bound ty ≤ length values
-  pub room : vars + depth_of ty ≤ 2 ^ 31 + 2000
+  pub room : vars + depth_of ty ≤ 2 ^ 31 + 4000
 
 -- the same of several terms
 abbrev pub MayPutInAll : ℕ → List Tree → List Tree → Type 0

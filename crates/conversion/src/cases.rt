@@ -18,7 +18,7 @@ use term_spine::{Arguments, instantiate, spine_of};
 
 /// A term applied to the first of some arguments, so many of them.
 #[tactic(auto, using(crate::proofs::CaseLaws::app_stop))]
-pub(crate) fn applied_first(
+pub fn applied_first(
     alloc: Global,
     function: Term,
     args: &Arguments,
@@ -40,7 +40,7 @@ pub(crate) fn applied_first(
 
 /// A term passes no limit.
 #[tactic(auto, using(crate::proofs::CaseLaws::term_within))]
-fn within(t: Term) -> Result<Term, TermStop>
+pub fn within(t: Term) -> Result<Term, TermStop>
     ensures { Gives result (within_limits t) }
 {
     let _depth = t.depth();
@@ -48,7 +48,7 @@ fn within(t: Term) -> Result<Term, TermStop>
 }
 
 /// The arguments behind so many.
-pub(crate) fn skipped(args: &Arguments, count: usize) -> Result<Arguments, NoMem>
+pub fn skipped(args: &Arguments, count: usize) -> Result<Arguments, NoMem>
     ensures { IfOk result (λ rest. rest ≡ drop count args.now) }
 {
     if count == 0 {
@@ -61,7 +61,7 @@ pub(crate) fn skipped(args: &Arguments, count: usize) -> Result<Arguments, NoMem
 }
 
 /// The first of some arguments, so many of them, as values: each before those that are there.
-pub(crate) fn values_of(
+pub fn values_of(
     alloc: Global,
     args: &Arguments,
     count: usize,
@@ -83,12 +83,12 @@ pub(crate) fn values_of(
 
 /// The values from a place on, each one binder deeper.
 #[tactic(auto, using(crate::proofs::CaseLaws::drop_found, crate::proofs::CaseLaws::drop_none, crate::proofs::CaseLaws::drop_beyond, crate::proofs::CaseLaws::found_over))]
-fn shifted_from(
+pub fn shifted_from(
     alloc: Global,
     values: &SharedList<Term>,
     at: usize,
 ) -> Result<SharedList<Term>, NoMem>
-    requires { AreOver (2 ^ 31 + 2000) values.now }
+    requires { AreOver (2 ^ 31 + 4000) values.now }
     ensures { IfOk result (λ vs. vs ≡ shift_all (drop at values.now)) }
 {
     if at >= values.len() {
@@ -105,8 +105,8 @@ fn shifted_from(
 }
 
 /// Values for one more variable, which stands for itself.
-fn values_under(alloc: Global, values: &SharedList<Term>) -> Result<SharedList<Term>, NoMem>
-    requires { AreOver (2 ^ 31 + 2000) values.now }
+pub fn values_under(alloc: Global, values: &SharedList<Term>) -> Result<SharedList<Term>, NoMem>
+    requires { AreOver (2 ^ 31 + 4000) values.now }
     ensures { IfOk result (λ vs. vs ≡ under_binder values.now) }
 {
     let Ok(newest) = Term::var(alloc, 0) else {
@@ -118,8 +118,8 @@ fn values_under(alloc: Global, values: &SharedList<Term>) -> Result<SharedList<T
 }
 
 /// A function one binder deeper, applied to the variable of that binder.
-pub(crate) fn eta_body(alloc: Global, function: &Term) -> Result<Term, TermStop>
-    requires { free_bound function.now ≤ 2 ^ 31 + 2000 }
+pub fn eta_body(alloc: Global, function: &Term) -> Result<Term, TermStop>
+    requires { free_bound function.now ≤ 2 ^ 31 + 4000 }
     ensures { Gives result (within_limits (body_of_eta function.now)) }
 {
     let shifted = lifted(alloc, function, 1)?;
@@ -215,7 +215,7 @@ fn recursive_call(
 
 /// An eliminator applied to the indices of a recursive argument's type.
 #[tactic(auto, using(crate::proofs::CaseLaws::indices_may))]
-fn called_with(
+pub fn called_with(
     alloc: Global,
     params: usize,
     eliminator: Term,
@@ -271,7 +271,7 @@ fn applied_case(
 /// A case applied to all arguments of its constructor, whose declared type is given with marks at
 /// the recursive arguments. Values stand for the parameters and for the arguments so far, and so
 /// many variables are about.
-pub(crate) fn case_applied(
+pub fn case_applied(
     alloc: Global,
     params: usize,
     marks: &[bool],

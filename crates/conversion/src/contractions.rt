@@ -13,15 +13,15 @@ use std::alloc::Global;
 use term_spine::{Arguments, Spine, spine_of};
 
 /// A function applied to its first argument, for a unit and one for each node of its body.
-pub(crate) fn beta(
+pub fn beta(
     alloc: Global,
     body: &Term,
     value: &Term,
     args: Arguments,
     fuel: &mut Fuel,
 ) -> Result<Spine, Stop>
-    requires body { free_bound body.now ≤ 2 ^ 31 + 1 }
-    requires value { free_bound value.now ≤ 2 ^ 31 }
+    requires body { free_bound body.now ≤ 2 ^ 31 + 2001 }
+    requires value { free_bound value.now ≤ 2 ^ 31 + 2000 }
     ensures contracted { Pays result fuel.old fuel.new (1 + size_of body.now) (put_all body.now value.now args) }
     ensures kept { IsSpentOf fuel.old fuel.new }
 {
@@ -31,7 +31,7 @@ pub(crate) fn beta(
 
 /// A value put in for the newest variable of a body, for so many units.
 #[tactic(auto, using(crate::proofs::TurnLaws::goes_on, crate::proofs::TurnLaws::stops, crate::proofs::TurnLaws::too_poor))]
-pub(crate) fn put_in(
+pub fn put_in(
     alloc: Global,
     units: u32,
     body: &Term,
@@ -39,8 +39,8 @@ pub(crate) fn put_in(
     args: Arguments,
     fuel: &mut Fuel,
 ) -> Result<Spine, Stop>
-    requires body { free_bound body.now ≤ 2 ^ 31 + 1 }
-    requires value { free_bound value.now ≤ 2 ^ 31 }
+    requires body { free_bound body.now ≤ 2 ^ 31 + 2001 }
+    requires value { free_bound value.now ≤ 2 ^ 31 + 2000 }
     ensures contracted { Pays result fuel.old fuel.new units (put_all body.now value.now args) }
     ensures kept { IsSpentOf fuel.old fuel.new }
 {
@@ -55,8 +55,8 @@ pub(crate) fn put_in(
 
 #[tactic(auto, using(crate::proofs::TurnLaws::subst_numbered, crate::proofs::TurnLaws::part_stop))]
 fn substituted(alloc: Global, body: &Term, value: &Term, args: Arguments) -> Result<Spine, TermStop>
-    requires body { free_bound body.now ≤ 2 ^ 31 + 1 }
-    requires value { free_bound value.now ≤ 2 ^ 31 }
+    requires body { free_bound body.now ≤ 2 ^ 31 + 2001 }
+    requires value { free_bound value.now ≤ 2 ^ 31 + 2000 }
     ensures { GivesSpine result (put_all body.now value.now args) }
 {
     let _body = body.depth();
@@ -69,7 +69,7 @@ fn substituted(alloc: Global, body: &Term, value: &Term, args: Arguments) -> Res
 
 /// A definition in the place of a head, for a unit.
 #[tactic(auto, using(crate::proofs::TurnLaws::goes_on, crate::proofs::TurnLaws::stops, crate::proofs::TurnLaws::too_poor))]
-pub(crate) fn unfold(
+pub fn unfold(
     alloc: Global,
     definition: Term,
     args: &Arguments,

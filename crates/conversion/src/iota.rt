@@ -80,13 +80,15 @@ pub(crate) fn spine_of_term(alloc: Global, t: &Term) -> Result<Spine, Stop>
     }
 }
 
-fn ctor_at(decl: &InductiveDecl, index: u32) -> Option<&Ctor>
+/// The constructor with this index.
+pub fn ctor_at(decl: &InductiveDecl, index: u32) -> Option<&Ctor>
     ensures { option_copied result ≡ slice_get decl.now.ctors index }
 {
     decl.ctors.as_slice().get(index as usize)
 }
 
-fn marks_at(shape: &FamilyShape, index: u32) -> Option<&List<bool>>
+/// Marks at the recursive arguments of the constructor with this index.
+pub fn marks_at(shape: &FamilyShape, index: u32) -> Option<&List<bool>>
     ensures { option_copied result ≡ slice_get shape.now.recursive index }
 {
     shape.recursive.as_slice().get(index as usize)
@@ -94,7 +96,7 @@ fn marks_at(shape: &FamilyShape, index: u32) -> Option<&List<bool>>
 
 /// The case of the constructor with this index: it stands behind the parameters and the motive.
 #[tactic(auto, using(crate::proofs::FireLaws::beyond))]
-fn case_at(args: &Arguments, params: usize, index: u32) -> Option<&Term>
+pub fn case_at(args: &Arguments, params: usize, index: u32) -> Option<&Term>
     ensures { option_copied result ≡ slice_get args.now (params + 1 + index) }
 {
     let _count = args.len();
@@ -105,7 +107,7 @@ fn case_at(args: &Arguments, params: usize, index: u32) -> Option<&Term>
 }
 
 /// There are as many arguments as parameters and products.
-fn is_full(count: u32, params: usize, products: usize) -> bool
+pub fn is_full(count: u32, params: usize, products: usize) -> bool
     ensures { result ≡ (count == params + products) }
 {
     match (count as usize).checked_sub(params) {

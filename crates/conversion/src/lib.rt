@@ -3,11 +3,11 @@
 #![tactic(auto)]
 
 mod blockers;
-mod cases;
-mod contractions;
+pub mod cases;
+pub mod contractions;
 mod conversion;
-mod iota;
-mod lookups;
+pub mod iota;
+pub mod lookups;
 mod reduction;
 mod sides;
 mod unfoldings;

@@ -15,7 +15,7 @@ use std::alloc::Global;
 use term_spine::Arguments;
 
 /// What delta puts in the place of a global: the body of a transparent definition.
-pub(crate) fn body_to_unfold(env: &GlobalEnv, place: u32, delta: bool) -> Option<&Term>
+pub fn body_to_unfold(env: &GlobalEnv, place: u32, delta: bool) -> Option<&Term>
     ensures { option_copied result ≡ (if delta then body_of_global env.now place else None) }
 {
     if !delta {
@@ -37,7 +37,7 @@ fn transparent(kind: &EntryKind) -> Option<&Term>
 }
 
 /// The place of the inductive type whose eliminator a global is.
-pub(crate) fn eliminated_place(env: &GlobalEnv, place: u32) -> Option<u32>
+pub fn eliminated_place(env: &GlobalEnv, place: u32) -> Option<u32>
     ensures { eliminator_of env.now (Constant place) ≡ family_if_any env.now result }
 {
     match env.get(place) {
@@ -50,7 +50,7 @@ pub(crate) fn eliminated_place(env: &GlobalEnv, place: u32) -> Option<u32>
 }
 
 /// Which constructor of the inductive type at a place a head is.
-pub(crate) fn constructor_index(env: &GlobalEnv, family: u32, head: &Term) -> Option<u32>
+pub fn constructor_index(env: &GlobalEnv, family: u32, head: &Term) -> Option<u32>
     ensures { result ≡ constructor_of env.now family head.now }
 {
     match head.node() {
@@ -66,7 +66,7 @@ pub(crate) fn constructor_index(env: &GlobalEnv, family: u32, head: &Term) -> Op
 }
 
 /// The argument with this index, from 0.
-pub(crate) fn argument_at(args: &Arguments, i: usize) -> Option<&Term>
+pub fn argument_at(args: &Arguments, i: usize) -> Option<&Term>
     ensures { option_copied result ≡ slice_get args.now i }
 {
     if i >= args.len() as usize {
@@ -76,7 +76,7 @@ pub(crate) fn argument_at(args: &Arguments, i: usize) -> Option<&Term>
 }
 
 /// The definition of a variable, where the context has one, as it stands in the whole context.
-pub(crate) fn value_of_variable(alloc: Global, ctx: &Context, i: u32) -> Result<Option<Term>, NoMem>
+pub fn value_of_variable(alloc: Global, ctx: &Context, i: u32) -> Result<Option<Term>, NoMem>
     ensures { IfOk result (λ v. v ≡ value_in ctx.now i) }
 {
     let Some(hyp) = ctx.get(i) else {
@@ -91,8 +91,8 @@ pub(crate) fn value_of_variable(alloc: Global, ctx: &Context, i: u32) -> Result<
 
 /// The term with room made for so many variables. It is no larger than before.
 #[tactic(auto, using(crate::proofs::LookupLaws::lift_numbered, crate::proofs::LookupLaws::lift_fits))]
-pub(crate) fn lifted(alloc: Global, t: &Term, by: u32) -> Result<Term, NoMem>
-    requires { free_bound t.now + by ≤ 2 ^ 31 + 3000 }
+pub fn lifted(alloc: Global, t: &Term, by: u32) -> Result<Term, NoMem>
+    requires { free_bound t.now + by ≤ 2 ^ 31 + 5000 }
     ensures { IfOk result (λ u. u ≡ lift_of t.now by 0) }
 {
     let _depth = t.depth();

@@ -10,5 +10,6 @@ mod values;
 
 pub use filling::{fill, has_unset};
 pub use laws::{law_of_fuel, law_of_values};
+pub use lowering::without_binders;
 pub use matches::matches as match_terms;
 pub use values::Values;

@@ -95,7 +95,7 @@ fn lower(alloc: Global, t: &Term, by: u32, from: u32) -> Result<Term, TermStop>
 /// A term that stands under so many binders, outside of them; none where a variable that they bind
 /// stands in it.
 #[tactic(auto, using(crate::proofs::Lowerings::lower_fits))]
-pub(crate) fn without_binders(alloc: Global, t: &Term, binders: u32) -> Result<Option<Term>, NoMem>
+pub fn without_binders(alloc: Global, t: &Term, binders: u32) -> Result<Option<Term>, NoMem>
     requires { binders + depth_of t.now < 2 ^ 32 }
     ensures { IfOk result (λ found. found ≡ without_binders t.now binders) }
 {

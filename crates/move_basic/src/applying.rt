@@ -361,7 +361,7 @@ fn is_used_later(count: u32, ty: &Term, at: u64) -> bool
 
 /// The argument for a product's variable.
 #[tactic(auto, using(crate::proofs::Arguments::domain_free, crate::proofs::Arguments::domain_pattern))]
-fn argument<J: Judge>(
+pub fn argument<J: Judge>(
     judge: &J,
     alloc: Global,
     env: &GlobalEnv,
@@ -446,7 +446,7 @@ fn argument_by<J: Judge>(
 
 /// A type with the values put in.
 #[tactic(auto, using(matching::proofs::MatchCalls::filled_in, matching::proofs::MatchCalls::filled_numbered))]
-fn filled(
+pub fn filled(
     alloc: Global,
     env: &GlobalEnv,
     ctx: &Context,
@@ -467,7 +467,7 @@ fn filled(
 
 /// A term behind so many more variables.
 #[tactic(auto, using(crate::proofs::Arguments::lift_fits, crate::proofs::Arguments::lift_numbered))]
-fn lifted(alloc: Global, t: &Term, count: u32) -> Result<Term, NoMem>
+pub fn lifted(alloc: Global, t: &Term, count: u32) -> Result<Term, NoMem>
     requires { free_bound t.now + count + 1000 ≤ 2 ^ 32 }
     ensures { IfOk result (λ u. u ≡ lift_of t.now count 0) }
 {

@@ -12,5 +12,6 @@ mod opening;
 mod refusals;
 mod whole_terms;
 
+pub use applying::{argument, filled, lifted};
 pub use laws::law_of_fuel;
 pub use moves::run_basic;

@@ -8,4 +8,9 @@ pub mod RefoldLaws
 pub mod SimplScopes
 pub mod RefoldingLaws
 pub mod IotaLaws
+pub mod TurnScopes
+pub mod ContractLaws
+pub mod HeadLaws
+pub mod PartLaws
+pub mod SimplMoves
 pub mod Samples

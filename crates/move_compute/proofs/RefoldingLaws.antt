@@ -19,7 +19,7 @@ use Rattle.cic_rules.specs.Families.{newest_first}
 use Rattle.cic_rules.specs.Runs.{GoOn}
 use Rattle.conversion.specs.Turns.{GoesOn}
 use Rattle.conversion.proofs.CaseLaws.{stopped, too_large, same_term}
-use Rattle.conversion.proofs.FireLaws.{drop_then, drop_over, first_over}
+use Rattle.conversion.proofs.FireLaws.{drop_then, drop_over, first_over, take_over, take_shallow, newest_over, newest_shallow, newest_count, take_count}
 use Rattle.conversion.proofs.TurnLaws.{part_stop}
 use Rattle.move_compute.specs.Cases.{case_on}
 use Rattle.move_compute.specs.Firing.{fired}
@@ -31,7 +31,7 @@ use Rattle.move_compute.specs.declared.cases.Call.{Call}
 use Rattle.move_compute.specs.declared.firing.Chosen.{Chosen}
 use Rattle.move_compute.specs.declared.refolds.Refold.{Refold}
 use Rattle.move_compute.proofs.CallLaws.{case_large}
-use Rattle.move_compute.proofs.FiringLaws.{take_over, take_shallow, newest_over, newest_shallow, newest_count, take_count, args_shallow}
+use Rattle.move_compute.proofs.FiringLaws.{args_shallow}
 use Rattle.move_compute.proofs.RefoldLaws.{args_made}
 use Rattle.move_compute.proofs.SimplScopes.{arguments_kept}
 

@@ -1,21 +1,20 @@
 //! What a case gives for a constructor: the case applied to the constructor's arguments, and to a call
 //! on each recursive one.
-ghost use Rattle.std.specs.Prelude.{◌≡◌, ◌+◌, ◌^◌, ◌≤◌, length, take, drop, IfOk};
+ghost use Rattle.std.specs.Prelude.{◌≡◌, ◌+◌, ◌^◌, ◌≤◌, drop, IfOk};
 ghost use Rattle.core_term.specs.Tree.{free_bound};
-ghost use Rattle.core_term.specs.Places.{lift_of};
 ghost use Rattle.core_term.specs.Answers.{within_limits, Gives};
-ghost use Rattle.term_spine.specs.Spine.{apply_all, eta_body as body_of_eta, shift_all};
+ghost use Rattle.term_spine.specs.Spine.{apply_all};
 ghost use Rattle.term_spine.specs.SpineLaws.{AreOver};
-ghost use Rattle.term_spine.specs.Instantiate.{values_under as under_binder, instantiate_all};
-ghost use Rattle.cic_rules.specs.Families.{newest_first, indices};
-ghost use Rattle.conversion.specs.Iota.{Makes, MayPutIn, MayPutInAll};
+ghost use Rattle.conversion.specs.Iota.{Makes, MayPutIn};
 ghost use Rattle.move_compute.specs.Cases.{called, call_under as deeper_call, call_on as is_call_on, argument_on as is_argument_on, case_on as is_case_on, IsCallOver};
 
 use base_core::NoMem;
+use conversion::cases::{called_with, eta_body, shifted_from, values_under, within};
+use conversion::lookups::lifted;
 use core_term::{Node, Term, TermStop};
 use shared_map::SharedList;
 use std::alloc::Global;
-use term_spine::{Arguments, instantiate, spine_of};
+use term_spine::{Arguments, instantiate};
 
 /// What stands for a recursive result: all that stands in front of the argument, and the arguments
 /// behind it.
@@ -23,179 +22,6 @@ use term_spine::{Arguments, instantiate, spine_of};
 pub struct Call {
     pub front: Term,
     pub behind: SharedList<Term>,
-}
-
-/// The term with room made for so many variables. It is no larger than before.
-#[tactic(auto, using(conversion::proofs::LookupLaws::lift_numbered, conversion::proofs::LookupLaws::lift_fits))]
-fn lifted(alloc: Global, t: &Term, by: u32) -> Result<Term, NoMem>
-    requires { free_bound t.now + by ≤ 2 ^ 31 + 3000 }
-    ensures { IfOk result (λ u. u ≡ lift_of t.now by 0) }
-{
-    let _depth = t.depth();
-    match t.lift(alloc, by, 0) {
-        Ok(lifted) => Ok(lifted),
-        Err(_) => Err(NoMem),
-    }
-}
-
-/// A term applied to the first of some arguments, so many of them.
-#[tactic(auto, using(conversion::proofs::CaseLaws::app_stop))]
-pub(crate) fn applied_first(
-    alloc: Global,
-    function: Term,
-    args: &Arguments,
-    count: usize,
-) -> Result<Term, TermStop>
-    ensures { Gives result (within_limits (apply_all function (take count args.now))) }
-{
-    if count == 0 {
-        return within(function);
-    }
-    match args.split()? {
-        None => within(function),
-        Some((first, rest)) => match Term::app(alloc, function, first) {
-            Ok(next) => applied_first(alloc, next, &rest, count - 1),
-            Err(stop) => Err(stop),
-        },
-    }
-}
-
-/// A term passes no limit.
-#[tactic(auto, using(conversion::proofs::CaseLaws::term_within))]
-fn within(t: Term) -> Result<Term, TermStop>
-    ensures { Gives result (within_limits t) }
-{
-    let _depth = t.depth();
-    Ok(t)
-}
-
-/// The arguments behind so many.
-pub(crate) fn skipped(args: &Arguments, count: usize) -> Result<Arguments, NoMem>
-    ensures { IfOk result (λ rest. rest ≡ drop count args.now) }
-{
-    if count == 0 {
-        return args.share();
-    }
-    match args.split()? {
-        None => args.share(),
-        Some((_, rest)) => skipped(&rest, count - 1),
-    }
-}
-
-/// The first of some arguments, so many of them, as values: each before those that are there.
-pub(crate) fn values_of(
-    alloc: Global,
-    args: &Arguments,
-    count: usize,
-    values: SharedList<Term>,
-) -> Result<SharedList<Term>, NoMem>
-    ensures { IfOk result (λ vs. vs ≡ newest_first (take count args.now) values) }
-{
-    if count == 0 {
-        return Ok(values);
-    }
-    match args.split()? {
-        None => Ok(values),
-        Some((first, rest)) => {
-            let values = values.with_first(alloc, first)?;
-            values_of(alloc, &rest, count - 1, values)
-        }
-    }
-}
-
-/// The values from a place on, each one binder deeper.
-#[tactic(auto, using(conversion::proofs::CaseLaws::drop_found, conversion::proofs::CaseLaws::drop_none, conversion::proofs::CaseLaws::drop_beyond, conversion::proofs::CaseLaws::found_over))]
-fn shifted_from(
-    alloc: Global,
-    values: &SharedList<Term>,
-    at: usize,
-) -> Result<SharedList<Term>, NoMem>
-    requires { AreOver (2 ^ 31 + 2000) values.now }
-    ensures { IfOk result (λ vs. vs ≡ shift_all (drop at values.now)) }
-{
-    if at >= values.len() {
-        return Ok(SharedList::empty());
-    }
-    match values.get(at) {
-        None => Ok(SharedList::empty()),
-        Some(value) => {
-            let shifted = lifted(alloc, value, 1)?;
-            let rest = shifted_from(alloc, values, at + 1)?;
-            rest.with_first(alloc, shifted)
-        }
-    }
-}
-
-/// Values for one more variable, which stands for itself.
-fn values_under(alloc: Global, values: &SharedList<Term>) -> Result<SharedList<Term>, NoMem>
-    requires { AreOver (2 ^ 31 + 2000) values.now }
-    ensures { IfOk result (λ vs. vs ≡ under_binder values.now) }
-{
-    let Ok(newest) = Term::var(alloc, 0) else {
-        return Err(NoMem);
-    };
-    let shifted = shifted_from(alloc, values, 0)?;
-    let values = shifted.with_first(alloc, newest)?;
-    Ok(values)
-}
-
-/// A function one binder deeper, applied to the variable of that binder.
-fn eta_body(alloc: Global, function: &Term) -> Result<Term, TermStop>
-    requires { free_bound function.now ≤ 2 ^ 31 + 2000 }
-    ensures { Gives result (within_limits (body_of_eta function.now)) }
-{
-    let shifted = lifted(alloc, function, 1)?;
-    let newest = Term::var(alloc, 0)?;
-    Term::app(alloc, shifted, newest)
-}
-
-/// A term applied to arguments into which values are put.
-#[tactic(auto, using(conversion::proofs::CaseLaws::may_number, conversion::proofs::CaseLaws::app_stop, conversion::proofs::CaseLaws::argument_stop))]
-fn applied_with(
-    alloc: Global,
-    function: Term,
-    values: &SharedList<Term>,
-    args: &Arguments,
-    vars: u32,
-) -> Result<Term, TermStop>
-    requires { MayPutInAll vars values.now args.now }
-    ensures { Gives result (within_limits (apply_all function (instantiate_all values.now args.now))) }
-{
-    match args.split()? {
-        None => within(function),
-        Some((first, rest)) => {
-            let _depth = first.depth();
-            match instantiate(alloc, &first, values) {
-                Ok(argument) => match Term::app(alloc, function, argument) {
-                    Ok(next) => applied_with(alloc, next, values, &rest, vars),
-                    Err(stop) => Err(stop),
-                },
-                Err(stop) => Err(stop),
-            }
-        }
-    }
-}
-
-/// A function applied to the indices of a recursive argument's type.
-#[tactic(auto, using(conversion::proofs::CaseLaws::indices_may))]
-fn called_with(
-    alloc: Global,
-    params: usize,
-    function: Term,
-    values: &SharedList<Term>,
-    ty: Term,
-    vars: u32,
-) -> Result<Term, TermStop>
-    requires { MayPutIn vars values.now ty }
-    ensures { Gives result (within_limits (apply_all function (instantiate_all values.now (indices params ty)))) }
-{
-    match spine_of(alloc, ty, Arguments::empty()) {
-        Ok(spine) => {
-            let indices = skipped(&spine.args, params)?;
-            applied_with(alloc, function, values, &indices, vars)
-        }
-        Err(_) => Err(TermStop::NoMem),
-    }
 }
 
 /// A term applied to values from a place on.
@@ -225,8 +51,8 @@ fn applied_from(
 
 /// A call one binder deeper.
 fn call_under(alloc: Global, call: &Call) -> Result<Call, NoMem>
-    requires front { free_bound call.now.front ≤ 2 ^ 31 + 2000 }
-    requires behind { AreOver (2 ^ 31 + 2000) call.now.behind }
+    requires front { free_bound call.now.front ≤ 2 ^ 31 + 4000 }
+    requires behind { AreOver (2 ^ 31 + 4000) call.now.behind }
     ensures { IfOk result (λ c. c ≡ deeper_call call.now) }
 {
     let front = lifted(alloc, &call.front, 1)?;

@@ -1,15 +1,19 @@
 //! The case that a constructor chooses.
-ghost use Rattle.std.specs.Prelude.{◌≡◌, ◌+◌, ◌==◌, slice_get, IfOk};
-ghost use Rattle.std.specs.Option.{option_copied};
-ghost use Rattle.move_compute.specs.Firing.{chosen_by, chosen_full};
+ghost use Rattle.std.specs.Prelude.{◌≡◌, IfOk};
+ghost use Rattle.term_spine.specs.Spines.{GivesSpine};
+ghost use Rattle.move_compute.specs.Firing.{chosen_by, chosen_full, fired};
+ghost use Rattle.move_compute.specs.Scopes.{MayFire};
 
-use crate::cases::skipped;
-use crate::lookups::{argument_at, constructor_index};
+use crate::cases::{Call, case_on};
 use base_core::{List, NoMem};
-use cic_rules::{Ctor, FamilyShape, GlobalEnv, InductiveDecl};
-use core_term::Term;
+use cic_rules::{Ctor, FamilyShape, GlobalEnv};
+use conversion::cases::{skipped, values_of};
+use conversion::iota::{case_at, ctor_at, is_full, marks_at};
+use conversion::lookups::constructor_index;
+use core_term::{Term, TermStop};
+use shared_map::SharedList;
 use std::alloc::Global;
-use term_spine::{Arguments, Spine};
+use term_spine::{Arguments, Spine, spine_of};
 
 /// A case with the constructor's declared type, marks at its recursive arguments, and the arguments
 /// that it has behind so many parameters.
@@ -81,36 +85,36 @@ fn choose_full(
     }))
 }
 
-fn ctor_at(decl: &InductiveDecl, index: u32) -> Option<&Ctor>
-    ensures { option_copied result ≡ slice_get decl.now.ctors index }
-{
-    decl.ctors.as_slice().get(index as usize)
-}
-
-fn marks_at(shape: &FamilyShape, index: u32) -> Option<&List<bool>>
-    ensures { option_copied result ≡ slice_get shape.now.recursive index }
-{
-    shape.recursive.as_slice().get(index as usize)
-}
-
-/// The case of the constructor with this index: it stands behind the parameters and the motive.
-#[tactic(auto, using(conversion::proofs::FireLaws::beyond))]
-fn case_at(args: &Arguments, params: usize, index: u32) -> Option<&Term>
-    ensures { option_copied result ≡ slice_get args.now (params + 1 + index) }
+/// What a case that was chosen becomes, where a call stands for the recursive results, the parameters
+/// are the first of an eliminator's arguments, and the rest is applied to it. So many variables are about.
+#[tactic(auto, using(crate::proofs::FiringLaws::fired_is, crate::proofs::FiringLaws::fired_stop))]
+pub(crate) fn fire(
+    alloc: Global,
+    call: &Call,
+    chosen: &Chosen,
+    case: Term,
+    args: &Arguments,
+    rest: Arguments,
+    vars: u32,
+) -> Result<Spine, TermStop>
+    requires { MayFire vars call.now args.now chosen.now }
+    ensures { GivesSpine result (fired call.now chosen.now case args.now rest) }
 {
     let _count = args.len();
-    match params.checked_add(1 + index as usize) {
-        Some(at) => argument_at(args, at),
-        None => None,
-    }
-}
-
-/// There are as many arguments as parameters and products.
-fn is_full(count: u32, params: usize, products: usize) -> bool
-    ensures { result ≡ (count == params + products) }
-{
-    match (count as usize).checked_sub(params) {
-        Some(rest) => rest == products,
-        None => false,
+    let _depth = chosen.ty.depth();
+    let values = values_of(alloc, args, chosen.params, SharedList::empty())?;
+    match case_on(
+        alloc,
+        chosen.params,
+        chosen.marks.as_slice(),
+        call,
+        case,
+        values,
+        &chosen.ty,
+        &chosen.given,
+        vars,
+    ) {
+        Ok(whole) => spine_of(alloc, whole, rest),
+        Err(stop) => Err(stop),
     }
 }

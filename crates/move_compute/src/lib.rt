@@ -2,14 +2,18 @@
 #![tactic(auto)]
 
 mod cases;
+mod contractions;
 mod firing;
+mod heads;
 mod laws;
 mod lookups;
 mod moves;
+mod refolding;
 mod refolds;
 mod refusals;
+mod simplification;
 mod unfold_move;
 mod unfolding;
 
 pub use laws::law_of_fuel;
-pub use moves::by_unfold;
+pub use moves::run_compute;

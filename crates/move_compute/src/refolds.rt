@@ -3,11 +3,12 @@ ghost use Rattle.std.specs.Prelude.{◌≡◌, ◌+◌, ◌==◌, Some, slice_ge
 ghost use Rattle.core_term.specs.Tree.{Constant};
 ghost use Rattle.move_compute.specs.Refold.{stripped as is_stripped, stands_once as is_standing_once, refold_on as refold_by_value, refold_with, refold_shaped, refold_of as is_refold_of};
 
-use crate::cases::applied_first;
-use crate::lookups::{argument_at, eliminated_family, spine_of_term};
+use crate::lookups::{eliminated_family, spine_of_term};
 use crate::unfold_move::body_at;
 use base_core::NoMem;
 use cic_rules::{FamilyShape, GlobalEnv};
+use conversion::cases::applied_first;
+use conversion::lookups::argument_at;
 use core_term::{Node, Term};
 use shared_map::SharedList;
 use std::alloc::Global;

@@ -1,11 +1,11 @@
 //! `unfold`: the goal with a definition's body in its place.
-ghost use Rattle.std.specs.Prelude.{◌≡◌, ◌^◌, ◌≤◌, length, IfOk, IfSome};
+ghost use Rattle.std.specs.Prelude.{◌≡◌, ◌^◌, ◌≤◌, IfOk, IfSome};
 ghost use Rattle.std.specs.Option.{option_copied};
 ghost use Rattle.base_core.specs.Answers.{Gives};
 ghost use Rattle.core_term.specs.Tree.{free_bound};
 ghost use Rattle.term_spine.specs.Globals.{mentions as is_mentioned};
 ghost use Rattle.cic_rules.specs.Environments.{transparent as body_of_kind, body_of_global};
-ghost use Rattle.cic_rules.specs.Judges.{MayJudge, IsTermIn};
+ghost use Rattle.cic_rules.specs.Judges.{IsTermIn};
 ghost use Rattle.cic_rules.specs.Steps.{answer_of};
 ghost use Rattle.move_compute.specs.Unfold.{unfold_in};
 

@@ -31,9 +31,6 @@ named_on ctx i h name whole is other rest =
     ap (λ b. if b then if_plain i h.value else named_from (i + 1) (drop (i + 1) ctx) name) (sym other)
     ∙ ap (λ hs. named_from i hs name) (sym (from_place ctx i h is)) ∙ rest
 
-pub none_named : (ctx : List Hyp) (i : ℕ) (name : List ℕ) (whole : Option ℕ) → length ctx ≤ i → named_from i (drop i ctx) name ≡ whole → None ≡ whole
-none_named ctx i name whole le rest = ap (λ hs. named_from i hs name) (sym (all_behind ctx i le)) ∙ rest
-
 -- one more hypothesis is marked
 one_marked : (taken : List ℕ) (ctx : List Hyp) (i : ℕ) (h : Hyp) (old new : Marked) → Some h ≡ slice_get ctx i →
     old ≡ marked_from taken (i + 1) (drop (i + 1) ctx) → new ≡ next_marked taken i h old → new ≡ marked_from taken i (drop i ctx)

@@ -10,7 +10,10 @@ pub mod StepLaws
 pub mod MotiveLaws
 pub mod InstanceLaws
 pub mod WalkLaws
+pub mod CaseLaws
 pub mod ScopesOfParts
 pub mod ClaimLaws
 pub mod ScopesOfEliminations
+pub mod TermParts
+pub mod GoalLaws
 mod Samples

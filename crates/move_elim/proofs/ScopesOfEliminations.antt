@@ -98,7 +98,7 @@ next_found : {Q : Type 0} (o : Option ℕ) (rest : ℕ → Option (List ℕ)) (i
 next_found None rest is e found = cc
 next_found (Some i) rest is e found = found i refl e
 
-variables_found : (ctx : List Hyp) (before : List Tree) (found : List ℕ) (ts : List Tree) (is : List ℕ) → index_variables ctx before found ts ≡ Some is →
+pub variables_found : (ctx : List Hyp) (before : List Tree) (found : List ℕ) (ts : List Tree) (is : List ℕ) → index_variables ctx before found ts ≡ Some is →
     AreBefore (length ctx) found → AreBefore (length ctx) is × (length is ≡ length found + length ts)
 variables_found ctx before found [] is e h =
     let same : found ≡ is = cc in
@@ -176,7 +176,7 @@ eliminator_in env place count sort e made =
     let found = eliminator_at env place sort (place + 1 + count + sort_rank sort) e (entry_at env (place + 1 + count + sort_rank sort)) refl made in
     let same = found.0 in let within = found.1 in (omega (arith, same), omega (arith, same, within))
 
-tested_in : (induction : Bool) (env : List Slot) (ctx : List Hyp) (goal : Tree) (d : InductiveDecl) (x : Subject) (sort : Sort) (branches : List (List Given)) →
+pub tested_in : (induction : Bool) (env : List Slot) (ctx : List Hyp) (goal : Tree) (d : InductiveDecl) (x : Subject) (sort : Sort) (branches : List (List Given)) →
     Has (tested induction env ctx goal d x sort branches) (λ e. (x.place + 1 + length d.ctors ≤ e) × (e < length env))
 tested_in induction env ctx goal d x sort branches =
     has_bind (has_some NOT_PERMITTED (eliminator_into env x.place (length d.ctors) sort) (λ e made. eliminator_in env x.place (length d.ctors) sort e made)) (λ e one.
@@ -231,7 +231,7 @@ module _ (induction : Bool) (env : List Slot) (c : Claim) where
   case_in w given (flag ∷ later) (LetIn n a u b) is = last_in w (LetIn n a u b) is
   case_in w given (flag ∷ later) (App f a) is = last_in w (App f a) is
 
-  first_walk : (hs : List Hyp) (built ty : Tree) (names : List (List ℕ)) → MayJudge env hs → IsClaimIn (length env) c → c.below ≡ length hs → IsTermIn env hs built →
+  pub first_walk : (hs : List Hyp) (built ty : Tree) (names : List (List ℕ)) → MayJudge env hs → IsClaimIn (length env) c → c.below ≡ length hs → IsTermIn env hs built →
       IsTermIn env hs ty → IsWalkIn env c (record { site = own_site c.below; ctx = hs; built = built; names = names }) ty
   first_walk hs built ty names judged claim below one two =
       record {

@@ -10,10 +10,10 @@ use Rattle.core_term.specs.Tree.{Tree, Var, Sorted, Constant, Prod, Lam, LetIn, 
 use Rattle.term_spine.specs.SpineLaws.{AreOver, AreShallow}
 use Rattle.term_spine.specs.Instantiate.{instantiated_variable, instantiate_under}
 use Rattle.term_spine.proofs.Instantiations.{instantiate_numbered}
-use Rattle.cic_rules.specs.Scopes.{AreBefore, IsScoped, AreScoped}
-use Rattle.cic_rules.proofs.ScopeLaws.{scoped_free, scoped_instantiate}
+use Rattle.cic_rules.specs.Scopes.{AreBefore, AreScoped}
+use Rattle.cic_rules.proofs.ScopeLaws.{scoped_free}
 use Rattle.move_elim.specs.declared.sites.Site.{Site}
-use Rattle.move_elim.specs.Sites.{variable_at, values_at, site_values, placed, levels_of, own_site, with_variable, with_binder, stand_for}
+use Rattle.move_elim.specs.Sites.{variable_at, values_at, site_values, levels_of, stand_for}
 use Rattle.move_elim.specs.Scopes.{IsSite, MayPlace}
 
 pub values_length : (depth : ℕ) (ls : List ℕ) → length (values_at depth ls) ≡ length ls
@@ -109,12 +109,6 @@ pub values_scoped : (globals depth : ℕ) (ls : List ℕ) → AreBefore depth ls
 values_scoped globals depth [] h = tt
 values_scoped globals depth (l ∷ ls) h = let lt = h.0 in (omega (arith, lt), values_scoped globals depth ls h.1)
 
--- a term at a site is in scope there
-pub placed_scoped : (globals : ℕ) (s : Site) (t : Tree) → MayPlace globals s t → IsScoped s.depth globals (placed s t)
-placed_scoped globals s t may =
-    scoped_instantiate s.depth globals (length s.levels) (site_values s) t (sym (values_length s.depth s.levels)) may.term
-    (values_scoped globals s.depth s.levels may.site.above)
-
 -- sites below further binders
 pub before_more : (depth : ℕ) (ls : List ℕ) → AreBefore depth ls → AreBefore (depth + 1) ls
 before_more depth [] h = tt
@@ -125,12 +119,6 @@ before_set depth i [] h = tt
 before_set depth zero (l ∷ ls) h = (omega arith, before_more depth ls h.1)
 before_set depth (suc i) (l ∷ ls) h = let lt = h.0 in (omega (arith, lt), before_set depth i ls h.1)
 
-pub is_with_variable : (s : Site) → IsSite s → s.depth + 1 ≤ 2 ^ 31 + 3000 → IsSite (with_variable s)
-is_with_variable s is room = record { above = (omega arith, before_more s.depth s.levels is.above); room = room }
-
-pub is_with_binder : (s : Site) → IsSite s → s.depth + 1 ≤ 2 ^ 31 + 3000 → IsSite (with_binder s)
-is_with_binder s is room = record { above = before_more s.depth s.levels is.above; room = room }
-
 pub is_standing : (i : ℕ) (s : Site) → IsSite s → s.depth + 1 ≤ 2 ^ 31 + 3000 → IsSite (stand_for i s)
 is_standing i s is room = record { above = before_set s.depth i s.levels is.above; room = room }
 
@@ -139,9 +127,6 @@ levels_before zero = tt
 levels_before (suc n) =
     let up : n + 1 ≡ suc n = omega arith in
     (omega arith, subst (λ k. AreBefore k (levels_of n)) up (before_more n (levels_of n) (levels_before n)))
-
-pub is_own : (n : ℕ) → n ≤ 2 ^ 31 → IsSite (own_site n)
-is_own n few = record { above = levels_before n; room = omega (arith, few) }
 
 pub levels_length : (n : ℕ) → length (levels_of n) ≡ n
 levels_length zero = refl

@@ -33,10 +33,6 @@ has_if false one two = two refl
 pub has_any : {A : Type 0} (s : Step A) → Has s (λ _. Unit {0})
 has_any s = record { has = λ x e. tt }
 
--- the equation itself
-pub has_itself : {A : Type 0} (s : Step A) → Has s (λ x. s ≡ Ok x)
-has_itself s = record { has = λ x e. e }
-
 -- a term that is not too large
 pub has_sized : {P : Tree → Type 0} (t : Tree) → P t → Has (sized t) P
 has_sized t holds = has_if (is_small t) (λ small. has_ok t holds) (λ large. has_halt TooLarge)

@@ -13,12 +13,12 @@ use Rattle.cic_rules.proofs.ScopeLaws.{scoped_free, scoped_eta, scoped_shift}
 use Rattle.term_spine.specs.Spine.{eta_body, shift}
 use Rattle.move_elim.specs.declared.cases.Walk.{Walk}
 use Rattle.move_elim.specs.declared.claims.Claim.{Claim}
-use Rattle.move_elim.specs.Cases.{past_argument, past_hypothesis}
+use Rattle.move_elim.specs.Cases.{past_argument, past_hypothesis, hypothesis}
 use Rattle.move_elim.specs.Claims.{claim_at}
 use Rattle.move_elim.specs.Scopes.{Has, IsSite, MayPlace, IsClaimAt, IsWalkIn}
 use Rattle.move_elim.specs.Sites.{placed, placed_all, with_binder, with_variable}
 use Rattle.move_elim.specs.Steps.{sized}
-use Rattle.move_elim.proofs.InstanceLaws.{placed_in, claim_scoped}
+use Rattle.move_elim.proofs.InstanceLaws.{placed_in, claim_scoped, hypothesis_scoped}
 use Rattle.move_elim.proofs.SiteLaws.{before_more}
 use Rattle.move_elim.proofs.StepLaws.{has_ok, has_bind, has_sized, has_entered, answered}
 
@@ -109,6 +109,24 @@ module _ (env : List Slot) (c : Claim) where
       Ok inner ≡ answer_of (past_argument w m ty) → IsWalkIn env c inner b
   walk_past w inner m n a b ty is e f =
       (answered {P = λ v. IsWalkIn env c v b × (v.ctx ≡ plain_hyp m ty ∷ w.ctx)} inner (past_in w m n a b ty is (domain_in w n a b ty is e)) f).0
+
+  inner_longer : (w inner : Walk) (m n : List ℕ) (a b : Tree) → IsWalkIn env c w (Prod n a b) → Ok inner ≡ answer_of (past_argument w m (placed w.site a)) →
+      inner.ctx ≡ plain_hyp m (placed w.site a) ∷ w.ctx
+  inner_longer w inner m n a b is f =
+      (answered {P = λ v. IsWalkIn env c v b × (v.ctx ≡ plain_hyp m (placed w.site a) ∷ w.ctx)} inner (past_in w m n a b (placed w.site a) is (in_place w n a b is)) f).1
+
+  pub inner_walk : (w inner : Walk) (m n : List ℕ) (a b : Tree) → IsWalkIn env c w (Prod n a b) → Ok inner ≡ answer_of (past_argument w m (placed w.site a)) →
+      IsWalkIn env c inner b
+  inner_walk w inner m n a b is f = walk_past w inner m n a b (placed w.site a) is refl f
+
+  -- what the hypothesis of the argument says is in scope behind it
+  pub says_scoped : (w inner : Walk) (m n : List ℕ) (a b ty : Tree) → IsWalkIn env c w (Prod n a b) → Ok inner ≡ answer_of (past_argument w m (placed w.site a)) →
+      Ok ty ≡ answer_of (hypothesis c (with_binder w.site) (Var 0) a) → IsTermIn env inner.ctx ty
+  says_scoped w inner m n a b ty is f e =
+      let depth = is.depth in let more = ap length (inner_longer w inner m n a b is f) in
+      let same : w.site.depth + 1 ≡ length inner.ctx = omega (arith, depth, more) in
+      subst (λ k. IsScoped k (length env) ty) same
+      (answered {P = IsScoped (w.site.depth + 1) (length env)} ty (hypothesis_scoped (length env) c (with_binder w.site) (Var 0) a (claim_at_argument w n a b is)) e)
 
   behind_walk : (w : Walk) (inner : List Hyp) (m : List ℕ) (b ty : Tree) (names : List (List ℕ)) → IsWalkIn env c w b → IsTermIn env w.ctx ty →
       inner ≡ plain_hyp m ty ∷ w.ctx → IsWalkIn env c (record { site = with_binder w.site; ctx = inner; built = shift w.built; names = names }) b

@@ -56,6 +56,15 @@ pub record IsClaimAt (globals : ℕ) (c : Claim) (s : Site) (x t : Tree) : Type 
   pub value : IsScoped s.depth globals x
   pub term : IsScoped (length s.levels) globals t
 
+-- what the case of each constructor is made of: the context of the goals, the claim below it, and the parameters
+pub record AreCasesIn (env : List Slot) (hs : List Hyp) (c : Claim) (x : Subject) : Type 0 where
+  pub judged : MayJudge env hs
+  pub claim : IsClaimIn (length env) c
+  pub below : c.below ≡ length hs
+  pub few : length c.indices ≤ 1000
+  pub params : AreScoped (length hs) (length env) x.params
+  pub shallow : AreShallow 1000 x.params
+
 -- a walk over a constructor's type, of which this is left
 pub record IsWalkIn (env : List Slot) (c : Claim) (w : Walk) (t : Tree) : Type 0 where
   pub judged : MayJudge env w.ctx

@@ -1,5 +1,5 @@
 //! What is shown of each constructor.
-ghost use Rattle.std.specs.Prelude.{◌≡◌, ◌+◌, ◌^◌, ◌≤◌, ◌<◌, length, IfOk};
+ghost use Rattle.std.specs.Prelude.{◌≡◌, ◌+◌, ◌++◌, ◌^◌, ◌≤◌, ◌<◌, length, IfOk, OnOk};
 ghost use Rattle.base_core.specs.Answers.{Gives as Answers};
 ghost use Rattle.core_term.specs.Tree.{same_sort as is_one_sort};
 ghost use Rattle.core_term.specs.Answers.{within_limits, Gives};
@@ -186,14 +186,22 @@ fn claim_site(alloc: Global, below: u32, is_prop: bool, x: &Subject) -> Result<S
     site.stand_for(alloc, x.variable)
 }
 
+/// Adds numbers to a list.
+pub(crate) fn push_all(numbers: &[u32], found: &mut NumberList) -> Result<(), NoMem>
+    ensures { OnOk result (found.new ≡ found.old ++ numbers.now) }
+{
+    for n in numbers {
+        found.push(*n)?;
+    }
+    Ok(())
+}
+
 /// The same numbers.
-fn copied(alloc: Global, numbers: &[u32]) -> Result<NumberList, NoMem>
+pub(crate) fn copied(alloc: Global, numbers: &[u32]) -> Result<NumberList, NoMem>
     ensures { IfOk result (λ copy. copy ≡ numbers.now) }
 {
     let mut copy = NumberList::new(alloc);
-    for n in numbers {
-        copy.push(*n)?;
-    }
+    push_all(numbers, &mut copy)?;
     Ok(copy)
 }
 

@@ -10,9 +10,11 @@ mod instances;
 mod introduction;
 mod laws;
 mod motives;
+mod moves;
 mod refusals;
 mod sites;
 mod subjects;
 mod terms;
 
 pub use laws::{law_of_fuel, law_of_scopes};
+pub use moves::run_elim;

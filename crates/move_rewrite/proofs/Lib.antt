@@ -3,4 +3,5 @@ pub mod RunsInTurn
 pub mod Subterms
 pub mod Replacements
 pub mod Sides
+pub mod SketchScopes
 pub mod Samples

@@ -129,7 +129,7 @@ abstracted_scoped u t n m h = abstracted_under u t n (suc n) m 0 refl (omega ari
 pub free_in_scope : (n m : ℕ) (t : Tree) → IsScoped n m t → n ≤ 2 ^ 31 → free_bound t ≤ 2 ^ 31
 free_in_scope n m t scoped few = let free = scoped_free n m t scoped in omega (arith, free, few)
 
-pub side_numbered : (n m : ℕ) (body side : Tree) → IsScoped (suc n) m body → IsScoped n m side → n ≤ 2 ^ 31 → IsTerm body → IsTerm side →
+side_numbered : (n m : ℕ) (body side : Tree) → IsScoped (suc n) m body → IsScoped n m side → n ≤ 2 ^ 31 → IsTerm body → IsTerm side →
     IsNumbered (subst_of body side 0)
 side_numbered n m body side one two few first second =
     let free = scoped_free (suc n) m body one in
@@ -137,6 +137,12 @@ side_numbered n m body side one two few first second =
     let deep = first.shallow in
     let low = second.shallow in
     numbered-substituted body side 0 n (omega arith) (omega (arith, free)) other (omega (arith, few, deep, low))
+
+pub goal_numbered : (n m : ℕ) (u goal body side other : Tree) → body ≡ abstracted u goal 0 → side ≡ other → IsScoped n m goal → IsScoped n m other →
+    n ≤ 2 ^ 31 → IsTerm body → IsTerm side → IsNumbered (subst_of body other 0)
+goal_numbered n m u goal body side other made is scoped one few first second =
+    subst (λ (v : Tree). IsNumbered (subst_of body v 0)) is
+    (side_numbered n m body side (subst (IsScoped (suc n) m) (sym made) (abstracted_scoped u goal n m scoped)) (subst (IsScoped n m) (sym is) one) few first second)
 
 pub side_scoped : (n m : ℕ) (body side : Tree) → IsScoped (suc n) m body → IsScoped n m side → IsScoped n m (subst_of body side 0)
 side_scoped n m body side one two = scoped_subst n (suc n) m 0 body side refl (omega arith) one two

@@ -1,17 +1,17 @@
 -- The sides of an equation: what stands in scope.
-use Rattle.std.specs.Prelude.{◌≡◌, ◌==◌, ◌<◌, ◌≤◌, ◌||◌, ℕ, suc, ◌+◌, ◌-◌, ◌^◌, List, length, Bool, true, false, Option, Some, None, refl, if◌then◌else◌, codes}
-use Rattle.std.proofs.Common.{subst, sym, arith}
+use Rattle.std.specs.Prelude.{◌≡◌, ◌==◌, ◌<◌, ◌||◌, ℕ, suc, ◌+◌, ◌-◌, List, length, Bool, true, false, Option, Some, None, refl, if◌then◌else◌, codes}
+use Rattle.std.proofs.Common.{subst, sym, ap, ◌∙◌, arith}
 use Rattle.std.proofs.lemmas.Bool.{or_parts}
 use Rattle.coq_syntax.specs.declared.moves.Direction.{Direction}
 use Rattle.coq_syntax.specs.declared.moves.Direction.TheVariants.{Unmarked, Forward, Backward}
-use Rattle.core_term.specs.Tree.{Tree, Var, Sorted, Constant, Prod, Lam, LetIn, App, free_bound}
+use Rattle.core_term.specs.Tree.{Tree, Var, Sorted, Constant, Prod, Lam, LetIn, App}
 use Rattle.term_spine.specs.Spine.{count_products, end_of_products}
 use Rattle.cic_rules.specs.declared.context.Hyp.{Hyp}
 use Rattle.cic_rules.specs.declared.env.Slot.{Slot}
 use Rattle.cic_rules.specs.Environments.{place_in}
 use Rattle.cic_rules.specs.Scopes.{IsScoped}
 use Rattle.cic_rules.proofs.PlaceLaws.{place_below}
-use Rattle.cic_rules.proofs.ScopeLaws.{scoped_free, scoped_shift}
+use Rattle.cic_rules.proofs.ScopeLaws.{scoped_shift}
 use Rattle.matching.specs.Patterns.{Values, has_unset}
 use Rattle.matching.specs.Scopes.{AreValues, IsPatternIn}
 use Rattle.move_rewrite.specs.declared.equations.Equation.{Equation}
@@ -20,7 +20,7 @@ use Rattle.move_rewrite.specs.Scopes.{IsEquationIn}
 use Rattle.move_rewrite.specs.Terms.{turning}
 
 -- what stands behind the products of a type
-pub end_scoped : (n m : ℕ) (t : Tree) → IsScoped n m t → IsScoped (n + count_products t) m (end_of_products t)
+end_scoped : (n m : ℕ) (t : Tree) → IsScoped n m t → IsScoped (n + count_products t) m (end_of_products t)
 end_scoped n m (Prod x a b) h =
     let deeper : suc n + count_products b ≡ n + suc (count_products b) = omega arith in
     subst (λ k. IsScoped k m (end_of_products b)) deeper (end_scoped (suc n) m b h.1)
@@ -56,12 +56,20 @@ by_places vars globals None two three t e is first second third scoped = absurd 
 by_places vars globals (Some eq) None three t e is first second third scoped = absurd (cc)
 by_places vars globals (Some eq) (Some same) None t e is first second third scoped = absurd (cc)
 
-pub equation_scoped : (env : List Slot) (vars : ℕ) (t : Tree) (e : Equation) → equation_of env t ≡ Some e → IsScoped vars (length env) t →
+equation_scoped : (env : List Slot) (vars : ℕ) (t : Tree) (e : Equation) → equation_of env t ≡ Some e → IsScoped vars (length env) t →
     IsEquationIn vars (length env) e
 equation_scoped env vars t e is scoped =
     by_places vars (length env) (place_in env (codes "eq")) (place_in env (codes "eq_refl")) (place_in env (codes "eq_ind")) t e is
     (λ place found. place_below env (codes "eq") place found) (λ place found. place_below env (codes "eq_refl") place found)
     (λ place found. place_below env (codes "eq_ind") place found) scoped
+
+-- the equation in which the type of a term ends
+pub ends_in : (env : List Slot) (vars count : ℕ) (t end : Tree) (found : Option Equation) (e : Equation) → IsScoped vars (length env) t →
+    count ≡ count_products t → end ≡ end_of_products t → found ≡ equation_of env end → found ≡ Some e → IsEquationIn (vars + count) (length env) e
+ends_in env vars count t end found e scoped counted is made some =
+    subst (λ k. IsEquationIn (vars + k) (length env) e) (sym counted)
+    (equation_scoped env (vars + count_products t) (end_of_products t) e (ap (equation_of env) (sym is) ∙ sym made ∙ some)
+    (end_scoped vars (length env) t scoped))
 
 -- its sides
 pub pattern_scoped : (d : Direction) (vars globals : ℕ) (e : Equation) → IsEquationIn vars globals e → IsScoped vars globals (pattern_of d e)
@@ -73,11 +81,6 @@ pub other_scoped : (d : Direction) (vars globals : ℕ) (e : Equation) → IsEqu
 other_scoped Unmarked vars globals e is = is.right
 other_scoped (Forward place) vars globals e is = is.right
 other_scoped (Backward place) vars globals e is = is.left
-
--- as many values as there are products
-pub same_count : (n m count : ℕ) (values : Values) (e : Equation) → length values ≡ count → IsEquationIn (n + count) m e →
-    IsEquationIn (n + length values) m e
-same_count n m count values e same is = subst (λ k. IsEquationIn (n + k) m e) (sym same) is
 
 -- a side as a pattern, all of whose variables have values
 pub side_pattern : (env : List Slot) (ctx : List Hyp) (values : Values) (p : Tree) → IsScoped (length ctx + length values) (length env) p →
@@ -95,6 +98,3 @@ settled_sides values e is =
 pub turning_scoped : (n m : ℕ) (e : Equation) → IsEquationIn n m e → IsScoped n m (turning e)
 turning_scoped n m e is =
     (((((is.by, is.ty), is.left), (is.ty, (((is.eq, scoped_shift n m e.ty is.ty), omega arith), scoped_shift n m e.left is.left))), ((is.same, is.ty), is.left)), is.right)
-
-pub room_for_one : (n m : ℕ) (t : Tree) → IsScoped n m t → n ≤ 2 ^ 31 → free_bound t + 1 + 1000 ≤ 2 ^ 32
-room_for_one n m t scoped few = let free = scoped_free n m t scoped in omega (arith, free, few)

@@ -7,17 +7,23 @@ use Rattle.core_term.specs.Tree.{Tree}
 use Rattle.cic_rules.specs.declared.context.Hyp.{Hyp}
 use Rattle.cic_rules.specs.declared.env.Slot.{Slot}
 use Rattle.cic_rules.specs.Fuel.{FuelState, left, calls_left}
-use Rattle.cic_rules.specs.Runs.{Ran}
+use Rattle.cic_rules.specs.Runs.{Ran, Run, ◌>>=◌}
 use Rattle.matching.specs.Patterns.{Values}
 use Rattle.proof_state.specs.declared.goals.Goal.{Goal}
 use Rattle.proof_state.specs.declared.state.Filling.{Filling}
-use Rattle.proof_state.specs.Partial.{Partial}
+use Rattle.proof_state.specs.Partial.{Partial, Ready}
 use Rattle.move_rewrite.specs.declared.equations.Equation.{Equation}
 use Rattle.move_rewrite.specs.declared.searching.Found.{Found}
 use Rattle.move_rewrite.specs.Arguments.{with_arguments}
 use Rattle.move_rewrite.specs.Moves.{by_rewrite, run_rewrite}
 use Rattle.move_rewrite.specs.Rewrite.{by_proof, by_equation, rewrite}
 use Rattle.move_rewrite.specs.Search.{matched, tried, first_found}
+
+-- what follows a subterm that was found
+abbrev pub by_found : List Slot → ℕ → Direction → List Hyp → Tree → Tree → Tree → ℕ → Equation → Found → Run (Partial Goal)
+by_found env calls d ctx goal t ty count e x = do
+  proof ← with_arguments env calls ctx x.values count ty (Ready t)
+  by_proof env calls d ctx goal e x proof
 
 module _ (env : List Slot) (ctx : List Hyp) where
   abbrev pub matched_with : ℕ → Tree → Option Tree → FuelState → Ran (Option Found)
@@ -34,6 +40,9 @@ module _ (env : List Slot) (ctx : List Hyp) where
 
   abbrev pub by_proof_with : Direction → Tree → Equation → Found → Partial Goal → FuelState → Ran (Partial Goal)
   by_proof_with d goal e x proof f = by_proof env (calls_left f) d ctx goal e x proof (left f)
+
+  abbrev pub by_found_with : Direction → Tree → Tree → Tree → ℕ → Equation → Found → FuelState → Ran (Partial Goal)
+  by_found_with d goal t ty count e x f = by_found env (calls_left f) d ctx goal t ty count e x (left f)
 
   abbrev pub by_equation_with : Direction → Tree → Tree → Tree → ℕ → Equation → FuelState → Ran (Partial Goal)
   by_equation_with d goal t ty count e f = by_equation env (calls_left f) d ctx goal t ty count e (left f)

@@ -1,5 +1,5 @@
 //! Equations that goals are rewritten by.
-ghost use Rattle.std.specs.Prelude.{◌≡◌, ◌+◌, ◌≤◌, false, length, IfOk};
+ghost use Rattle.std.specs.Prelude.{◌≡◌, ◌+◌, ◌-◌, ◌≤◌, false, length, IfOk};
 ghost use Rattle.base_core.specs.Answers.{Gives};
 ghost use Rattle.core_term.specs.Tree.{depth_of};
 ghost use Rattle.term_spine.specs.Spine.{count_products as products_of, end_of_products as the_end};
@@ -13,6 +13,7 @@ use cic_rules::{Context, GlobalEnv};
 use coq_syntax::Direction;
 use core_term::{Node, Term};
 use matching::{Values, has_unset};
+use move_basic::filled;
 use std::alloc::Global;
 
 /// An equation: the places of `eq`, of its constructor and of its eliminator into `Prop`, the type of the sides,
@@ -166,4 +167,32 @@ pub(crate) fn is_unsettled(values: &Values, equation: &Equation) -> bool
     let _right = equation.right.depth();
     has_unset(values, &equation.ty, 0)
         || (has_unset(values, &equation.left, 0) || has_unset(values, &equation.right, 0))
+}
+
+/// The equation at values of its variables: each that stands in it has one.
+#[tactic(auto, using(crate::proofs::Sides::side_pattern, crate::proofs::Sides::settled_sides))]
+pub(crate) fn filled_equation(
+    alloc: Global,
+    env: &GlobalEnv,
+    ctx: &Context,
+    values: &Values,
+    equation: &Equation,
+) -> Result<Equation, Stop>
+    requires equation { IsEquationIn (length ctx.now + length values.now) (length env.now) equation.now }
+    requires found { AreValues (length ctx.now - 0) (length env.now) values.now }
+    requires settled { unsettled values.now equation.now ≡ false }
+    ensures answer { Gives result (answer_of (the_filled values.now equation.now)) }
+    ensures scoped { IfOk result (IsEquationIn (length ctx.now) (length env.now)) }
+{
+    let ty = filled(alloc, env, ctx, values, &equation.ty)?;
+    let left = filled(alloc, env, ctx, values, &equation.left)?;
+    let right = filled(alloc, env, ctx, values, &equation.right)?;
+    Ok(Equation {
+        eq: equation.eq,
+        same: equation.same,
+        by: equation.by,
+        ty,
+        left,
+        right,
+    })
 }

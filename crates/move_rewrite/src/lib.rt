@@ -4,8 +4,12 @@
 mod arguments;
 mod equations;
 mod laws;
+mod moves;
 mod refusals;
 mod replacing;
+mod rewriting;
 mod searching;
+mod sketches;
 
 pub use laws::law_of_fuel;
+pub use moves::run_rewrite;

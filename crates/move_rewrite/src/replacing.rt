@@ -5,9 +5,9 @@ ghost use Rattle.core_term.specs.Places.{lift_of};
 ghost use Rattle.core_term.specs.Tree.{free_bound, depth_of, same_tree};
 ghost use Rattle.move_rewrite.specs.Replacement.{abstracted as the_abstracted, abstracted_parts as the_abstracted_parts};
 
-use crate::arguments::lifted;
 use base_core::NoMem;
 use core_term::{Node, Term, TermStop};
+use move_basic::lifted;
 use std::alloc::Global;
 
 /// A term with a new variable, the newest, in place of each subterm that is u. It is no larger.

@@ -1,18 +1,17 @@
 //! The first subterm of a goal, in preorder, that a pattern matches.
-ghost use Rattle.std.specs.Prelude.{◌≡◌, ◌+◌, ◌^◌, ◌<◌, ◌≤◌, length, IfOk, false};
+ghost use Rattle.std.specs.Prelude.{◌≡◌, ◌+◌, ◌≤◌, length, IfOk};
 ghost use Rattle.core_term.specs.Tree.{depth_of};
 ghost use Rattle.cic_rules.specs.Fuel.{left, IsSpentOf};
 ghost use Rattle.cic_rules.specs.Judges.{MayJudge, IsTermIn, Meets};
 ghost use Rattle.cic_rules.specs.Scopes.{IsScoped};
-ghost use Rattle.matching.specs.Lowering.{without_binders as the_lowered};
 ghost use Rattle.move_rewrite.specs.Calls.{matched_with, tried_with, first_found_with};
 ghost use Rattle.move_rewrite.specs.Scopes.{IsFoundFor};
 ghost use Rattle.move_rewrite.specs.Search.{same_head as one_head};
 
-use base_core::{NoMem, Stop};
+use base_core::Stop;
 use cic_rules::{Context, Fuel, GlobalEnv, Judge};
-use core_term::{Node, Term, TermStop};
-use matching::{Values, fill, has_unset, match_terms};
+use core_term::{Node, Term};
+use matching::{Values, match_terms, without_binders};
 use std::alloc::Global;
 
 /// A subterm, and the values by which a pattern is it.
@@ -225,24 +224,5 @@ fn same_head(count: u32, binders: u32, pattern: &Term, t: &Term) -> bool
             Node::LetIn { .. } => true,
             _ => false,
         },
-    }
-}
-
-/// A term that stands under so many binders, outside of them; none where a variable that they bind
-/// stands in it.
-#[tactic(auto, using(crate::proofs::Subterms::lowered_numbered))]
-fn without_binders(alloc: Global, t: &Term, binders: u32) -> Result<Option<Term>, NoMem>
-    requires { binders + depth_of t.now ≤ 1000 }
-    ensures { IfOk result (λ found. found ≡ the_lowered t.now binders) }
-{
-    let _depth = t.depth();
-    let unset = Values::unset(alloc, binders)?;
-    if has_unset(&unset, t, 0) {
-        return Ok(None);
-    }
-    match fill(alloc, t, &unset, 0) {
-        Ok(lowered) => Ok(Some(lowered)),
-        Err(TermStop::NoMem) => Err(NoMem),
-        Err(TermStop::TooLarge) => unreachable!(),
     }
 }

@@ -10,7 +10,7 @@ use Rattle.conversion.proofs.cases.+recursive_call.Goals as goal
 pub values_under-requires : goal.values_under-requires
 values_under-requires t c =
     let room = c.requires.values.room in
-    law.over_more c.args.vars 2147485648 c.args.values.now (omega (arith, room)) c.requires.values.over
+    law.over_more c.args.vars 2147487648 c.args.values.now (omega (arith, room)) c.requires.values.over
 
 pub instantiate-requires : goal.instantiate-requires
 instantiate-requires t c =

@@ -71,25 +71,25 @@ reduce_spine-returns-clause-answer t c =
 pub turn-beta-requires-clause-body : goal.turn-beta-requires-clause-body
 turn-beta-requires-clause-body t c =
     let is : c.args.spine.now.head ≡ Lam c.in-Lam.name c.in-Lam.domain c.in-Lam.body = sym c.node.ensures.top ∙ ap tree_of c.in-Lam.is in
-    let few : length c.args.ctx.now ≤ 2147483648 = c.len-count.ensures.context.short in
+    let short = c.len-count.ensures.context.short in let few : length c.args.ctx.now ≤ 2147485648 = omega (arith, short) in
     lam_body (length c.args.ctx.now) (length c.args.env.now) c.args.spine.now.head c.args.spine.now.args c.in-Lam.name c.in-Lam.domain c.in-Lam.body is few c.requires.term
 
 pub turn-beta-requires-clause-value : goal.turn-beta-requires-clause-value
 turn-beta-requires-clause-value t c =
-    let few : length c.args.ctx.now ≤ 2147483648 = c.len-count.ensures.context.short in
+    let short = c.len-count.ensures.context.short in let few : length c.args.ctx.now ≤ 2147485648 = omega (arith, short) in
     let split : c.args.spine.now.args ≡ c.in-Some.value ∷ c.in-Some.rest = rw c.in-Some.is at c.in_ok-split-in-Lam.ensures in
     first_bound (length c.args.ctx.now) (length c.args.env.now) c.args.spine.now.head c.args.spine.now.args c.in-Some.value c.in-Some.rest split few c.requires.term
 
 pub turn-put_in-requires-clause-body : goal.turn-put_in-requires-clause-body
 turn-put_in-requires-clause-body t c =
     let is : c.args.spine.now.head ≡ LetIn c.in-LetIn.name c.in-LetIn.ty c.in-LetIn.value c.in-LetIn.body = sym c.node.ensures.top ∙ ap tree_of c.in-LetIn.is in
-    let few : length c.args.ctx.now ≤ 2147483648 = c.len-count.ensures.context.short in
+    let short = c.len-count.ensures.context.short in let few : length c.args.ctx.now ≤ 2147485648 = omega (arith, short) in
     let_body (length c.args.ctx.now) (length c.args.env.now) c.args.spine.now.head c.args.spine.now.args c.in-LetIn.name c.in-LetIn.ty c.in-LetIn.value c.in-LetIn.body is few c.requires.term
 
 pub turn-put_in-requires-clause-value : goal.turn-put_in-requires-clause-value
 turn-put_in-requires-clause-value t c =
     let is : c.args.spine.now.head ≡ LetIn c.in-LetIn.name c.in-LetIn.ty c.in-LetIn.value c.in-LetIn.body = sym c.node.ensures.top ∙ ap tree_of c.in-LetIn.is in
-    let few : length c.args.ctx.now ≤ 2147483648 = c.len-count.ensures.context.short in
+    let short = c.len-count.ensures.context.short in let few : length c.args.ctx.now ≤ 2147485648 = omega (arith, short) in
     let_value (length c.args.ctx.now) (length c.args.env.now) c.args.spine.now.head c.args.spine.now.args c.in-LetIn.name c.in-LetIn.ty c.in-LetIn.value c.in-LetIn.body is few c.requires.term
 
 pub turn_constant-turn_eliminator-requires : goal.turn_constant-turn_eliminator-requires

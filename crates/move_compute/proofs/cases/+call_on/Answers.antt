@@ -11,7 +11,7 @@ use Rattle.move_compute.proofs.cases.+call_on.Goals as goal
 pub values_under-requires : goal.values_under-requires
 values_under-requires t c =
     let room = c.requires.values.room in
-    law.over_more c.args.vars 2147485648 c.args.values.now (omega (arith, room)) c.requires.values.over
+    law.over_more c.args.vars 2147487648 c.args.values.now (omega (arith, room)) c.requires.values.over
 
 pub instantiate-requires : goal.instantiate-requires
 instantiate-requires t c =
@@ -60,7 +60,7 @@ returns-in-Err t c =
 pub call_under-requires-clause-behind : goal.call_under-requires-clause-behind
 call_under-requires-clause-behind t c =
     let room = c.requires.values.room in
-    law.over_more c.args.vars 2147485648 c.args.call.now.behind (omega (arith, room)) c.requires.call.behind
+    law.over_more c.args.vars 2147487648 c.args.call.now.behind (omega (arith, room)) c.requires.call.behind
 
 pub returns-in-Err-call_on : goal.returns-in-Err-call_on
 returns-in-Err-call_on t c =
