@@ -39,7 +39,6 @@ use Rattle.elaborator.specs.Parts.{closed}
 use Rattle.elaborator.specs.Constructors.{applied_to_oldest, result_type, constructor_type}
 use Rattle.elaborator.proofs.FuelOfElab.{fuel_of_elaboration, fuel_of_groups}
 use Rattle.bullet_focus.specs.Steps.{replaced, after_bullet, after_brace_open, after_brace_close}
-use Rattle.move_basic.proofs.FuelOfMoves.{fuel_of_moves}
 use Rattle.proof_state.specs.declared.goals.Goal.{Goal}
 use Rattle.proof_state.specs.declared.goals.TheConstants.{GOAL_LIMIT}
 use Rattle.proof_state.specs.declared.state.Filling.{Filling}
@@ -57,6 +56,7 @@ use Rattle.vernac_exec.specs.Proofs.{first_number, context_in_focus, refocused, 
 use Rattle.vernac_exec.specs.Readings.{read_plain, reading}
 use Rattle.vernac_exec.specs.Sentences.{run_outside, run_inside, run_reading, sentence_run}
 use Rattle.vernac_exec.specs.Laws.{FuelOfSentences}
+use Rattle.vernac_exec.proofs.AllMoves.{fuel_of_move}
 
 -- constructors, where the type is there
 module _ (env : List Slot) (calls : ℕ) where
@@ -181,7 +181,7 @@ bounded_is t e = either_is (is_small t) (Ok t) (Err (Out SizeLimit)) (λ h. cc) 
 module _ (env : List Slot) (calls : ℕ) where
   law_prove_at : (o : OpenProof) (n : ℕ) (g : Goal) (m : Move) → KeepsLawOfFuel (prove_at env calls o n g m)
   law_prove_at o n g m =
-      law_bind (fuel_of_moves env calls g m) (λ by. law_bind (law_give (refined_by o.proof n by) (refined_is o.proof n by)) (λ r.
+      law_bind (fuel_of_move env calls g m) (λ by. law_bind (law_give (refined_by o.proof n by) (refined_is o.proof n by)) (λ r.
       law_pure (GoesOn r.proof (replaced r.goals o.focus) (told_of_filling by))))
 
   law_prove : (o : OpenProof) (m : Move) → KeepsLawOfFuel (prove env calls o m)

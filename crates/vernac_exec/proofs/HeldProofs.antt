@@ -62,7 +62,7 @@ use Rattle.vernac_exec.specs.States.{passed, with_progress, done, entered_as_adm
 use Rattle.vernac_exec.specs.Exec.{whole_run}
 use Rattle.vernac_exec.specs.Laws.{IsHeldProof, SentencesKeepProofs}
 use Rattle.vernac_exec.proofs.PlainGroups.{groups_plain}
-use Rattle.vernac_exec.proofs.ScopesOfMoves.{move_in}
+use Rattle.vernac_exec.proofs.AllMoves.{move_in}
 
 any : {A : Type 0} (f : Run A) → Tells f (λ _. Unit {0})
 any f = record { tells = λ left x e. tt }

@@ -1,4 +1,4 @@
--- What a proof move gives is in scope of its goal.
+-- What a basic proof move gives is in scope of its goal.
 use Rattle.std.proofs.Common.{◌≡◌, ℕ, zero, suc, ◌+◌, ◌-◌, ◌==◌, ◌≤◌, List, [], ◌∷◌, length, Bool, true, false, Option, Some, None, refl, sym, ◌∙◌, subst, arith}
 use Rattle.std.specs.Prelude.{if◌then◌else◌, IfSome}
 use Rattle.std.proofs.lemmas.Bool.Decides.{nat_tests}
@@ -50,7 +50,7 @@ use Rattle.move_basic.proofs.Constructed.{constructor_scoped}
 use Rattle.move_basic.proofs.Equations.{equation_scoped, reflexive_scoped}
 use Rattle.move_basic.proofs.Openings.{opening_scoped, renamed_hyp, sketch_under}
 
-any : {A : Type 0} (f : Run A) → Tells f (λ _. Unit {0})
+pub any : {A : Type 0} (f : Run A) → Tells f (λ _. Unit {0})
 any f = record { tells = λ left x e. tt }
 
 module _ (env : List Slot) where
@@ -124,7 +124,7 @@ module _ (env : List Slot) where
   filled_found calls ctx binders p t values all =
       tells_step (check_size p) (tells_bind (any (conv_at env calls ctx Same p t)) (λ same _. tells_pure _ (same_found ctx binders values same all)))
 
-  match_found : (calls : ℕ) (ctx : List Hyp) (binders : ℕ) (p t : Tree) (values : Values) → binders ≤ length ctx →
+  pub match_found : (calls : ℕ) (ctx : List Hyp) (binders : ℕ) (p t : Tree) (values : Values) → binders ≤ length ctx →
       AreValues (length ctx - binders) (length env) values → IsTermIn env ctx t →
       Tells (match_at env calls ctx binders p t values) (Finds env ctx binders values)
   unfolding match_at
@@ -139,7 +139,7 @@ module _ (env : List Slot) where
   abbrev AreSet : List Hyp → Values → Type 0
   AreSet ctx values = AreValues (length ctx) (length env) values
 
-  unset_in : (n count : ℕ) → AreValues n (length env) (unset_values count)
+  pub unset_in : (n count : ℕ) → AreValues n (length env) (unset_values count)
   unset_in n zero = tt
   unset_in n (suc count) = (tt, unset_in n count)
 
@@ -195,7 +195,7 @@ module _ (env : List Slot) where
     argument_by_in ctx a used (Some v) hyps scoped =
         tells_step (check_size a) (tells_bind (scope_of_checks env is calls ctx hyps v a) (λ used_names judged. tells_pure (Ready v) judged.term))
 
-    argument_in : (ctx : List Hyp) (values : Values) (count : ℕ) (a : Tree) (used : Bool) → IsScopedContext (length env) ctx → AreSet ctx values →
+    pub argument_in : (ctx : List Hyp) (values : Values) (count : ℕ) (a : Tree) (used : Bool) → IsScopedContext (length env) ctx → AreSet ctx values →
         count ≤ length values → IsScoped (length ctx + (length values - count)) (length env) a → Tells (argument env calls ctx values count a used) (IsSketchIn env ctx)
     argument_in ctx values count a used hyps all within scoped =
         let whole : length ctx + length values ≡ length ctx + (length values - count) + count = omega (arith, within) in
@@ -322,22 +322,22 @@ module _ (env : List Slot) where
     solved_in : (ctx : List Hyp) (s : Run (Partial Goal)) → Tells s (IsSketchIn env ctx) → Tells (solved s) (IsFillingIn env ctx)
     solved_in ctx s one = tells_bind one (λ sketch in_scope. tells_pure (Give sketch) in_scope)
 
-    -- a move
-    pub move_in : (g : Goal) (m : Move) → IsGoalIn env g → Tells (run_basic env calls g m) (IsFillingIn env g.ctx)
-    move_in g (Intro p w) goal = solved_in g.ctx _ (intro_in w g.ctx g.ty goal.judged.scoped goal.ty)
-    move_in g (Intros p ws) goal = solved_in g.ctx _ (intros_in ws g.ctx g.ty goal.judged.scoped goal.ty)
-    move_in g (Exact p s) goal =
+    -- a move; others are refused
+    pub basic_in : (g : Goal) (m : Move) → IsGoalIn env g → Tells (run_basic env calls g m) (IsFillingIn env g.ctx)
+    basic_in g (Intro p w) goal = solved_in g.ctx _ (intro_in w g.ctx g.ty goal.judged.scoped goal.ty)
+    basic_in g (Intros p ws) goal = solved_in g.ctx _ (intros_in ws g.ctx g.ty goal.judged.scoped goal.ty)
+    basic_in g (Exact p s) goal =
         tells_bind (elab_inside env is calls g.ctx s goal.judged.scoped) (λ t term. solved_in g.ctx _ (exact_in g.ctx g.ty t term goal.judged.scoped))
-    move_in g (Apply p s) goal =
+    basic_in g (Apply p s) goal =
         tells_bind (elab_inside env is calls g.ctx s goal.judged.scoped) (λ t term. solved_in g.ctx _ (apply_in g.ctx g.ty t goal.judged.scoped goal.ty term))
-    move_in g (Assumption p) goal = solved_in g.ctx _ (assumed_in g.ctx g.ty 0 g.ctx (omega arith))
-    move_in g (Split p) goal = solved_in g.ctx _ (construct_in 1 0 _ g.ctx g.ty goal.judged.scoped goal.ty)
-    move_in g (Left p) goal = solved_in g.ctx _ (construct_in 2 0 _ g.ctx g.ty goal.judged.scoped goal.ty)
-    move_in g (Right p) goal = solved_in g.ctx _ (construct_in 2 1 _ g.ctx g.ty goal.judged.scoped goal.ty)
-    move_in g (Reflexivity p) goal = solved_in g.ctx _ (reflexivity_in g.ctx g.ty goal.judged.scoped goal.ty)
-    move_in g (move.Admit p) goal = tells_pure Admit tt
-    move_in g (Simpl p) goal = tells_stop _
-    move_in g (Unfold p w) goal = tells_stop _
-    move_in g (Destruct p w pattern) goal = tells_stop _
-    move_in g (Induction p w pattern) goal = tells_stop _
-    move_in g (Rewrite p d s) goal = tells_stop _
+    basic_in g (Assumption p) goal = solved_in g.ctx _ (assumed_in g.ctx g.ty 0 g.ctx (omega arith))
+    basic_in g (Split p) goal = solved_in g.ctx _ (construct_in 1 0 _ g.ctx g.ty goal.judged.scoped goal.ty)
+    basic_in g (Left p) goal = solved_in g.ctx _ (construct_in 2 0 _ g.ctx g.ty goal.judged.scoped goal.ty)
+    basic_in g (Right p) goal = solved_in g.ctx _ (construct_in 2 1 _ g.ctx g.ty goal.judged.scoped goal.ty)
+    basic_in g (Reflexivity p) goal = solved_in g.ctx _ (reflexivity_in g.ctx g.ty goal.judged.scoped goal.ty)
+    basic_in g (move.Admit p) goal = tells_pure Admit tt
+    basic_in g (Simpl p) goal = tells_stop _
+    basic_in g (Unfold p w) goal = tells_stop _
+    basic_in g (Destruct p w pattern) goal = tells_stop _
+    basic_in g (Induction p w pattern) goal = tells_stop _
+    basic_in g (Rewrite p d s) goal = tells_stop _

@@ -41,7 +41,6 @@ use Rattle.elaborator.specs.declared.binders.Binding.TheVariants.{Product, Funct
 use Rattle.elaborator.specs.Parts.{closed}
 use Rattle.bullet_focus.specs.FocusState.{FocusState}
 use Rattle.bullet_focus.specs.Steps.{replaced, after_bullet, after_brace_open, after_brace_close}
-use Rattle.move_basic.specs.Moves.{run_basic}
 use Rattle.proof_state.specs.declared.goals.Goal.{Goal}
 use Rattle.proof_state.specs.Proof.{Proof}
 use Rattle.proof_state.specs.Steps.{started, unsolved_at, refined_by, bounded, closed as whole_proof}
@@ -54,7 +53,7 @@ use Rattle.vernac_exec.specs.declared.state.Row.{Row}
 use Rattle.vernac_exec.specs.declared.state.State.{State}
 use Rattle.vernac_exec.specs.Families.{family, written_names, elab_constructors}
 use Rattle.vernac_exec.specs.Commands.{judgement_text, theorem, named_hyps, declare_as, assume, elab_over, elab_annotation, define, elab_family, induct, check, begin_proof, obey}
-use Rattle.vernac_exec.specs.Proofs.{first_number, context_in_focus, refocused, told_of_filling, has_unsolved, prove_at, prove, end_proof, obey_inside}
+use Rattle.vernac_exec.specs.Proofs.{first_number, context_in_focus, refocused, told_of_filling, has_unsolved, run_move, prove_at, prove, end_proof, obey_inside}
 use Rattle.vernac_exec.specs.Readings.{is_end_of, reading}
 use Rattle.vernac_exec.specs.Sentences.{run_outside, run_inside, run_reading, sentence_run}
 use Rattle.vernac_exec.specs.States.{next_row, passed, declared, done, entered_as_admitted, with_progress, behind}
@@ -250,7 +249,7 @@ module _ (env : List Slot) (calls : ℕ) where
   module _ (o : OpenProof) (put : WaitsIn env o.theorem.admitted) where
     prove_at_does : (n : ℕ) (g : Goal) (m : Move) → Tells (prove_at env calls o n g m) (IsDeedIn env)
     prove_at_does n g m =
-        tells_bind (any (run_basic env calls g m)) (λ by _. tells_bind (any (give (refined_by o.proof n by))) (λ r _.
+        tells_bind (any (run_move env calls g m)) (λ by _. tells_bind (any (give (refined_by o.proof n by))) (λ r _.
         tells_pure (GoesOn r.proof (replaced r.goals o.focus) (told_of_filling by)) tt))
 
     prove_does : (m : Move) → Tells (prove env calls o m) (IsDeedIn env)

@@ -33,7 +33,7 @@ module _ (P : ℕ → ℕ → Type 0) where
   at_iota t (Some to) = at_contract 1 to
 
   module _ (env : List Slot) (delta : Bool) where
-    at_redex : (reduce : Tree → Run Tree) → ((v : Tree) → Stands P (reduce v)) → (t : Tree) (redex : Redex) →
+    pub at_redex : (reduce : Tree → Run Tree) → ((v : Tree) → Stands P (reduce v)) → (t : Tree) (redex : Redex) →
         Stands P (reduce_redex env delta reduce t redex)
     at_redex reduce at t Stuck = search (stands_laws)
     at_redex reduce at t (Reduces units to) = at_contract units to
@@ -169,7 +169,7 @@ module _ (P : ℕ → ℕ → Type 0) where
         (at_infer_by (whnf_at env true calls) (conv_at env calls) (infer_at env calls) (at_whnf env true calls) (at_conv env calls)
         (at_infer calls) env ctx t)
 
-    at_sort : (calls : ℕ) (ctx : List Hyp) (a : Tree) → Stands P (sort_of_at env calls ctx a)
+    pub at_sort : (calls : ℕ) (ctx : List Hyp) (a : Tree) → Stands P (sort_of_at env calls ctx a)
     at_sort calls ctx a =
         at_sort_of (whnf_at env true calls) (conv_at env calls) (infer_at env calls) (at_whnf env true calls) (at_conv env calls) (at_infer calls) ctx a
 

@@ -1,4 +1,4 @@
--- The refusals of a proof move stand at tokens of its term, or at the whole sentence.
+-- The refusals of a basic proof move stand at tokens of its term, or at the whole sentence.
 use Rattle.std.proofs.Common.{ℕ, zero, suc, ◌+◌, ◌-◌, ◌==◌, List, [], ◌∷◌, length, Bool, true, false, Option, Some, None, Ok, Err, slice_get}
 use Rattle.std.specs.Prelude.{if◌then◌else◌}
 use Rattle.base_core.specs.declared.refusal_codes.TheConstants.{NAME_USED}
@@ -80,7 +80,7 @@ module _ (P : ℕ → ℕ → Type 0) where
   at_filled : (env : List Slot) (calls : ℕ) (ctx : List Hyp) (p t : Tree) (values : Values) → Stands P (match_filled env calls ctx p t values)
   at_filled env calls ctx p t values = search (stands_laws, convs) depth 12
 
-  at_match : (env : List Slot) (calls : ℕ) (ctx : List Hyp) (binders : ℕ) (p t : Tree) (values : Values) →
+  pub at_match : (env : List Slot) (calls : ℕ) (ctx : List Hyp) (binders : ℕ) (p t : Tree) (values : Values) →
       Stands P (match_at env calls ctx binders p t values)
   unfolding match_at
   at_match env zero ctx binders p t values = search (stands_laws)
@@ -190,7 +190,7 @@ module _ (P : ℕ → ℕ → Type 0) where
   at_argument_by env calls ctx a used None = search (stands_laws) depth 12
   at_argument_by env calls ctx a used (Some v) = search (stands_laws, checks) depth 12
 
-  at_argument : (env : List Slot) (calls : ℕ) (ctx : List Hyp) (values : Values) (count : ℕ) (a : Tree) (used : Bool) →
+  pub at_argument : (env : List Slot) (calls : ℕ) (ctx : List Hyp) (values : Values) (count : ℕ) (a : Tree) (used : Bool) →
       Stands P (argument env calls ctx values count a used)
   at_argument env calls ctx values count a used = search (stands_laws, at_argument_by) depth 12
 
@@ -249,20 +249,20 @@ module _ (P : ℕ → ℕ → Type 0) where
   at_solved : (s : Run (Partial Goal)) → Stands P s → Stands P (solved s)
   at_solved s at = stands_bind at (λ x. stands_pure (Give x))
 
-  -- the tokens of the move stand so
-  pub at_move : (env : List Slot) (calls : ℕ) (g : Goal) (m : Move) → AreAt P (move_tokens m) → Stands P (run_basic env calls g m)
-  at_move env calls g (Intro p w) at = at_solved _ (at_intro env calls w g.ctx g.ty)
-  at_move env calls g (Intros p ws) at = at_solved _ (at_intros env calls ws g.ctx g.ty)
-  at_move env calls g (Exact p s) at = stands_bind (at_elab P env calls g.ctx s [] at.1) (λ t. at_solved _ (at_exact env calls g.ctx g.ty t))
-  at_move env calls g (Apply p s) at = stands_bind (at_elab P env calls g.ctx s [] at.1) (λ t. at_solved _ (at_apply env calls g.ctx g.ty t))
-  at_move env calls g (Assumption p) at = at_solved _ (at_assumption env calls g.ctx g.ty)
-  at_move env calls g (Split p) at = at_solved _ (at_construct env calls 1 0 _ g.ctx g.ty)
-  at_move env calls g (Left p) at = at_solved _ (at_construct env calls 2 0 _ g.ctx g.ty)
-  at_move env calls g (Right p) at = at_solved _ (at_construct env calls 2 1 _ g.ctx g.ty)
-  at_move env calls g (Reflexivity p) at = at_solved _ (at_reflexivity env calls g.ctx g.ty)
-  at_move env calls g (move.Admit p) at = stands_pure Admit
-  at_move env calls g (Simpl p) at = stands_refuse _
-  at_move env calls g (Unfold p w) at = stands_refuse _
-  at_move env calls g (Destruct p w pattern) at = stands_refuse _
-  at_move env calls g (Induction p w pattern) at = stands_refuse _
-  at_move env calls g (Rewrite p d s) at = stands_refuse _
+  -- the tokens of the move stand so; others are refused
+  pub at_basic : (env : List Slot) (calls : ℕ) (g : Goal) (m : Move) → AreAt P (move_tokens m) → Stands P (run_basic env calls g m)
+  at_basic env calls g (Intro p w) at = at_solved _ (at_intro env calls w g.ctx g.ty)
+  at_basic env calls g (Intros p ws) at = at_solved _ (at_intros env calls ws g.ctx g.ty)
+  at_basic env calls g (Exact p s) at = stands_bind (at_elab P env calls g.ctx s [] at.1) (λ t. at_solved _ (at_exact env calls g.ctx g.ty t))
+  at_basic env calls g (Apply p s) at = stands_bind (at_elab P env calls g.ctx s [] at.1) (λ t. at_solved _ (at_apply env calls g.ctx g.ty t))
+  at_basic env calls g (Assumption p) at = at_solved _ (at_assumption env calls g.ctx g.ty)
+  at_basic env calls g (Split p) at = at_solved _ (at_construct env calls 1 0 _ g.ctx g.ty)
+  at_basic env calls g (Left p) at = at_solved _ (at_construct env calls 2 0 _ g.ctx g.ty)
+  at_basic env calls g (Right p) at = at_solved _ (at_construct env calls 2 1 _ g.ctx g.ty)
+  at_basic env calls g (Reflexivity p) at = at_solved _ (at_reflexivity env calls g.ctx g.ty)
+  at_basic env calls g (move.Admit p) at = stands_pure Admit
+  at_basic env calls g (Simpl p) at = stands_refuse _
+  at_basic env calls g (Unfold p w) at = stands_refuse _
+  at_basic env calls g (Destruct p w pattern) at = stands_refuse _
+  at_basic env calls g (Induction p w pattern) at = stands_refuse _
+  at_basic env calls g (Rewrite p d s) at = stands_refuse _

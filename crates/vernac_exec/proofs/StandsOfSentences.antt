@@ -69,7 +69,7 @@ use Rattle.vernac_exec.specs.Commands.{judgement_text, theorem, named_hyps, decl
 use Rattle.vernac_exec.specs.Proofs.{first_number, context_in_focus, refocused, told_of_filling, has_unsolved, prove_at, prove, end_proof, obey_inside}
 use Rattle.vernac_exec.specs.Readings.{read_plain, read_tokens, bullet, reading}
 use Rattle.vernac_exec.specs.Sentences.{run_outside, run_inside, run_reading, sentence_run}
-use Rattle.vernac_exec.proofs.StandsOfMoves.{at_move}
+use Rattle.vernac_exec.proofs.AllMoves.{at_move}
 use Rattle.vernac_exec.proofs.StandsLaws.{IsAt, StopsAt, Stands, stands_give, stands_pure, stands_refuse, stands_some, stands_step_of, stands_size, stands_forbid, stands_entry, stands_bind, stands_step}
 use Rattle.vernac_exec.proofs.StandsOfKernel.{at_infer, at_declare}
 use Rattle.vernac_exec.proofs.StandsOfElab.{AreAt, behind, behind_groups, behind_annotation, at_closed, at_elab, at_groups, at_constructor}

@@ -41,7 +41,6 @@ use Rattle.bullet_focus.specs.FocusState.{FocusState}
 use Rattle.bullet_focus.specs.Laws.{all_goals}
 use Rattle.bullet_focus.specs.Steps.{begun, replaced, after_bullet, after_brace_open, after_brace_close}
 use Rattle.bullet_focus.proofs.GoalLaws.{bullets_keep, braces_keep}
-use Rattle.move_basic.specs.Moves.{run_basic}
 use Rattle.proof_state.specs.declared.goals.Goal.{Goal}
 use Rattle.proof_state.specs.Proof.{Proof}
 use Rattle.proof_state.specs.Steps.{started, unsolved_at, refined_by, bounded, closed as whole_proof}
@@ -54,7 +53,7 @@ use Rattle.vernac_exec.specs.declared.state.OpenProof.{OpenProof}
 use Rattle.vernac_exec.specs.declared.state.State.{State}
 use Rattle.vernac_exec.specs.Families.{family, written_names, elab_constructors}
 use Rattle.vernac_exec.specs.Commands.{judgement_text, theorem, named_hyps, declare_as, assume, elab_over, elab_annotation, define, elab_family, induct, check, begin_proof, obey}
-use Rattle.vernac_exec.specs.Proofs.{first_number, context_in_focus, refocused, told_of_filling, has_unsolved, prove_at, prove, end_proof, obey_inside}
+use Rattle.vernac_exec.specs.Proofs.{first_number, context_in_focus, refocused, told_of_filling, has_unsolved, run_move, prove_at, prove, end_proof, obey_inside}
 use Rattle.vernac_exec.specs.Readings.{is_end_of, reading}
 use Rattle.vernac_exec.specs.Sentences.{run_outside, run_inside, run_reading, sentence_run}
 use Rattle.vernac_exec.specs.States.{passed, done, entered_as_admitted, behind, with_progress}
@@ -212,7 +211,7 @@ module _ (env : List Slot) (calls : ℕ) where
     prove_at_does : (n : ℕ) (g : Goal) (m : Move) → first_number o ≡ Some n → unsolved_at o.proof.goals n ≡ Some g →
         Tells (prove_at env calls o n g m) (IsDeedOf env (Some o))
     prove_at_does n g m first is =
-        tells_bind (any (run_basic env calls g m)) (λ by _. tells_bind (tells_give (refined_by o.proof n by) (λ r e. e)) (λ r made.
+        tells_bind (any (run_move env calls g m)) (λ by _. tells_bind (tells_give (refined_by o.proof n by) (λ r e. e)) (λ r made.
         tells_pure (Continues r.proof (replaced r.goals o.focus) (told_of_filling by))
         (record { before = o; is = refl; agrees = λ h. refined_agree o.proof o.focus n g by r first is made h })))
 

@@ -35,6 +35,7 @@ use Rattle.elaborator.specs.Parts.{closed}
 use Rattle.elaborator.specs.Constructors.{constructor_type}
 use Rattle.elaborator.specs.Elab.{elab, open_groups}
 use Rattle.proof_state.specs.declared.goals.Goal.{Goal}
+use Rattle.proof_state.specs.declared.state.Filling.{Filling}
 use Rattle.proof_state.specs.Steps.{started, bounded, closed as whole_proof}
 use Rattle.vernac_exec.specs.declared.deed.Deed.{Deed}
 use Rattle.vernac_exec.specs.declared.deed.Deed.TheVariants.{Begins}
@@ -42,7 +43,7 @@ use Rattle.vernac_exec.specs.declared.reading.Reading.{Reading}
 use Rattle.vernac_exec.specs.declared.state.OpenProof.{OpenProof}
 use Rattle.vernac_exec.specs.Families.{ctor, family, named_ctors, elab_constructors}
 use Rattle.vernac_exec.specs.Commands.{declare_as, assume, elab_over, elab_annotation, define, elab_family, induct, check, theorem, named_hyps, begin_proof, obey}
-use Rattle.vernac_exec.specs.Proofs.{prove_at, prove, end_proof, obey_inside}
+use Rattle.vernac_exec.specs.Proofs.{run_move, prove_at, prove, end_proof, obey_inside}
 use Rattle.vernac_exec.specs.Sentences.{run_outside, run_inside, run_reading, sentence_run}
 
 -- a refusal at the whole sentence
@@ -138,6 +139,9 @@ module _ (env : List Slot) where
 
   abbrev pub obey_with : Command → FuelState → Ran Deed
   obey_with c f = obey env (calls_left f) c (left f)
+
+  abbrev pub run_move_with : Goal → Move → FuelState → Ran Filling
+  run_move_with g m f = run_move env (calls_left f) g m (left f)
 
   abbrev pub prove_at_with : OpenProof → ℕ → Goal → Move → FuelState → Ran Deed
   prove_at_with o n g m f = prove_at env (calls_left f) o n g m (left f)

@@ -6,12 +6,15 @@ use Rattle.bullet_focus.specs.Steps.{replaced}
 use Rattle.prover_iface.specs.declared.outline.ItemKind.TheVariants as item
 use Rattle.coq_syntax.specs.CommandTrees.{Command}
 use Rattle.coq_syntax.specs.CommandTrees as command
-use Rattle.coq_syntax.specs.MoveTrees.{Move}
+use Rattle.coq_syntax.specs.MoveTrees.{Move, Simpl, Unfold, Destruct, Induction, Rewrite}
 use Rattle.cic_rules.specs.declared.context.Hyp.{Hyp}
 use Rattle.cic_rules.specs.declared.decls.Decl.TheVariants.{Define}
 use Rattle.cic_rules.specs.declared.env.Slot.{Slot}
 use Rattle.cic_rules.specs.Runs.{Run, ◌>>=◌, ◌>>◌, give, pure, refuse, forbid, some_or}
 use Rattle.move_basic.specs.Moves.{run_basic}
+use Rattle.move_compute.specs.Moves.{run_compute}
+use Rattle.move_elim.specs.Moves.{run_elim}
+use Rattle.move_rewrite.specs.Moves.{run_rewrite}
 use Rattle.proof_state.specs.declared.goals.Goal.{Goal}
 use Rattle.proof_state.specs.declared.state.Filling.{Filling}
 use Rattle.proof_state.specs.declared.state.Filling.TheVariants.{Give, Admit}
@@ -63,10 +66,19 @@ has_unsolved (status ∷ goals) = is_some (unsolved_of status) || has_unsolved g
 
 -- in an environment; so many judgements may stand in one another
 module _ (env : List Slot) (calls : ℕ) where
+  -- what a proof move gives for a goal, by the moves of its kind
+  abbrev pub run_move : Goal → Move → Run Filling
+  run_move g (Destruct p w pattern) = run_elim env calls g (Destruct p w pattern)
+  run_move g (Induction p w pattern) = run_elim env calls g (Induction p w pattern)
+  run_move g (Rewrite p d s) = run_rewrite env calls g (Rewrite p d s)
+  run_move g (Simpl p) = run_compute env calls g (Simpl p)
+  run_move g (Unfold p w) = run_compute env calls g (Unfold p w)
+  run_move g m = run_basic env calls g m
+
   -- a proof move at an unsolved goal, the first one in focus: its new goals come in its place
   abbrev pub prove_at : OpenProof → ℕ → Goal → Move → Run Deed
   prove_at o n g m = do
-    by ← run_basic env calls g m
+    by ← run_move g m
     r ← give (refined_by o.proof n by)
     pure (GoesOn r.proof (replaced r.goals o.focus) (told_of_filling by))
 

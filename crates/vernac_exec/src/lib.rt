@@ -10,6 +10,7 @@ mod entering;
 mod exec;
 mod families;
 mod laws;
+mod moves;
 mod names;
 mod outline;
 mod prover_laws;

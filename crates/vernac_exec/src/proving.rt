@@ -15,13 +15,13 @@ ghost use Rattle.vernac_exec.specs.Calls.{Does, prove_at_with, prove_with, close
 use crate::commands::check;
 use crate::deed::{CodeList, Deed};
 use crate::entering::{declare_as, refusal};
+use crate::moves::run_move;
 use crate::state::OpenProof;
 use base_core::refusal_codes::{ADMITTED_GOALS, GOAL_ADMITTED, GOALS_REMAIN, NO_GOAL, PROOF_OPEN};
 use base_core::{NoMem, Stop};
 use bullet_focus::Focused;
 use cic_rules::{Context, Decl, Declares, Fuel, GlobalEnv, Judge};
 use coq_syntax::{Command, CommandForm, MoveForm};
-use move_basic::run_basic;
 use proof_state::{Filling, Goal, ProofState};
 use prover_iface::ItemKind;
 use std::alloc::Global;
@@ -156,7 +156,7 @@ fn prove_at<J: Judge>(
     ensures deed { IfOk result (IsDeedIn env.now) }
     ensures kept { IsSpentOf fuel.old fuel.new }
 {
-    let by = run_basic(judge, alloc, env, goal, form, fuel)?;
+    let by = run_move(judge, alloc, env, goal, form, fuel)?;
     let told = told_of_filling(alloc, &by)?;
     let refined = open.proof.refine(alloc, number, by)?;
     let focus = open.focus.replace_first(alloc, &refined.goals)?;
