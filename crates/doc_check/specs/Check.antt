@@ -1,12 +1,14 @@
 -- What checking a text means, for any prover. The sentences are those of `sentences`: by the law of splits of
 -- `sentence_split` they are the one split that the grammar of sentences allows.
-use Rattle.std.specs.Prelude.{ℕ, ◌+◌, ◌≤◌, Option, None, Some, List, [], ◌∷◌, ◌++◌, map, fold, length, take, slice_index_or, slice_range}
+use Rattle.std.specs.Prelude.{ℕ, ◌+◌, ◌≤◌, nat_le, count_by, Option, None, Some, List, [], ◌∷◌, ◌++◌, map, fold, length, take, slice_index_or, slice_range}
 use Rattle.base_core.specs.declared.kind.Kind.TheVariants.{Plain}
 use Rattle.base_core.specs.declared.refusal_codes.TheConstants as code
 use Rattle.base_core.specs.Codes.{text_of}
 use Rattle.sentence_split.specs.declared.spans.Span.{Span}
 use Rattle.sentence_split.specs.Sentences.{sentences}
 use Rattle.prover_iface.specs.declared.diagnostics.RelDiag.{RelDiag}
+use Rattle.prover_iface.specs.declared.goals.GoalsView.{GoalsView}
+use Rattle.prover_iface.specs.declared.outline.OutlineItem.{OutlineItem}
 use Rattle.prover_iface.specs.Sentences.{Sentence}
 use Rattle.prover_iface.specs.Meanings.{Meanings}
 use Rattle.doc_check.specs.declared.diagnostics.AbsDiag.{AbsDiag}
@@ -76,14 +78,30 @@ abbrev pub cost_at : {M : Type 0} → Meanings M → List ℕ → ℕ → ℕ
 cost_at means text number =
     means.cost (state_after means text (take number (sentences 0 0 text))) (sentence_at text (span_of (sentences 0 0 text) number))
 
--- what checking a text from its beginning says: its diagnostics, and what each sentence costs
+-- the goals behind the first so many sentences of a text
+abbrev pub goals_behind : {M : Type 0} → Meanings M → List ℕ → ℕ → Option GoalsView
+goals_behind means text number = means.goals_of (state_after means text (take number (sentences 0 0 text)))
+
+-- what checking a text from its beginning says: its diagnostics, its outline, what each sentence costs, and the goals
+-- behind the first so many
 pub record Views : Type 0 where
   pub diags : List ℕ → List AbsDiag
+  pub outline : List ℕ → List OutlineItem
   pub cost : List ℕ → ℕ → ℕ
+  pub goals : List ℕ → ℕ → Option GoalsView
 
 -- the same by a prover
 abbrev pub views : {M : Type 0} → Meanings M → Views
-views means = record { diags = λ text. (checked means text).diags; cost = cost_at means }
+views means = record {
+  diags = λ text. (checked means text).diags;
+  outline = λ text. (checked means text).outline;
+  cost = cost_at means;
+  goals = goals_behind means;
+}
+
+-- how many sentences of a text start at or before an offset
+abbrev pub started : List ℕ → ℕ → ℕ
+started text offset = count_by (λ span. nat_le span.from offset) (sentences 0 0 text)
 
 -- a diagnostic stands within so many bytes
 pub record IsPlaced (length : ℕ) (diag : AbsDiag) : Type 0 where

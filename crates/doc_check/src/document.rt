@@ -10,7 +10,7 @@ ghost use Rattle.prover_iface.specs.Exec.{Answers, Works};
 ghost use Rattle.memo_table.specs.Entries.{number_of};
 ghost use Rattle.memo_table.specs.Table.{with_rows};
 ghost use Rattle.memo_table.specs.Fits.{Fits};
-ghost use Rattle.doc_check.specs.Check.{sentence_at, span_of, count, checked, IsPlaced};
+ghost use Rattle.doc_check.specs.Check.{sentence_at, span_of, count, checked, goals_behind, started, IsPlaced};
 ghost use Rattle.doc_check.specs.Document.{doc, parts, state_at, done, all_done, last_of, next_of, next_key, next_span, state_here, with_number, taken, took, IsTaken, same_sentence, changed};
 ghost use Rattle.doc_check.specs.Stands.{Follows, Stands, Moved, IsHeld, IsKept, Runs, Advanced, cost_here, TookOne};
 
@@ -20,7 +20,7 @@ use crate::reporting::report_diags;
 use crate::{AbsDiagList, Advance, Report};
 use base_core::{NoMem, Steps, Text};
 use memo_table::{Kept, Key, MemoTable};
-use prover_iface::{DiagList, Outcome, Prover};
+use prover_iface::{DiagList, GoalsView, Outcome, OutlineList, Prover};
 use sentence_split::{Span, SpanList, resplit, split};
 use std::alloc::Global;
 use std::marker::Model;
@@ -108,6 +108,13 @@ impl<P: Prover> DocCheck<P> {
         ensures { result ≡ slice_index_or (0 ∷ self.now.numbers) sentences 0 }
     {
         self.finished[sentences - 1].number
+    }
+
+    /// Adds the numbers that stand for its finished sentences.
+    pub fn add_numbers(&self, numbers: &mut Vec<u64>) -> Result<(), NoMem>
+        ensures { OnOk result (numbers.new.items ≡ numbers.old.items ++ self.now.numbers) }
+    {
+        add_all(numbers, self.finished.as_slice())
     }
 
     /// The place of the sentence of a number, from 0 on.
@@ -443,6 +450,55 @@ impl<P: Prover> DocCheck<P> {
         next_from(&self.spans, self.done(), self.text.as_str().len())
     }
 
+    /// How many sentences start at or before an offset.
+    pub fn started(&self, offset: usize) -> usize
+        ensures started { result ≡ started self.now.text offset }
+        ensures few { result ≤ count self.now.text }
+    {
+        self.spans
+            .as_slice()
+            .iter()
+            .filter(|span| span.from as usize <= offset)
+            .count()
+    }
+
+    /// The byte at which the sentence of a number begins; 0 where there is none.
+    pub fn begin_of(&self, number: usize) -> usize
+        ensures begin { result ≡ (span_of (sentences 0 0 self.now.text) number).from }
+        ensures within { result ≤ length self.now.text }
+    {
+        begin_in(&self.spans, number, self.text.as_str().len())
+    }
+
+    /// The byte behind the sentence of a number; 0 where there is none.
+    pub fn end_of(&self, number: usize) -> usize
+        ensures end { result ≡ (span_of (sentences 0 0 self.now.text) number).to }
+        ensures within { result ≤ length self.now.text }
+    {
+        end_in(&self.spans, number, self.text.as_str().len())
+    }
+
+    /// The goals behind the first so many sentences.
+    pub fn goals(
+        &self,
+        alloc: Global,
+        prover: &P,
+        sentences: usize,
+    ) -> Result<Option<GoalsView>, NoMem>
+        requires { sentences ≤ done self.now }
+        ensures { IfOk result (λ goals. goals ≡ goals_behind P.means self.now.text sentences) }
+    {
+        prover.goals(alloc, self.state_after(sentences))
+    }
+
+    /// What the text declares.
+    pub fn outline(&self, alloc: Global, prover: &P) -> Result<OutlineList, NoMem>
+        requires { all_done self.now ≡ true }
+        ensures { IfOk result (λ outline. outline ≡ (checked P.means self.now.text).outline) }
+    {
+        prover.outline(alloc, self.state_after(self.done()))
+    }
+
     /// All that is told of the text, in order.
     pub fn diags(&self, alloc: Global, prover: &P) -> Result<AbsDiagList, NoMem>
         requires { all_done self.now ≡ true }
@@ -475,7 +531,7 @@ impl<P: Prover> DocCheck<P> {
             &self.spans,
             self.finished.as_slice(),
         )?;
-        let outline = prover.outline(alloc, last)?;
+        let outline = self.outline(alloc, prover)?;
         Ok(Report { diags, outline })
     }
 }
@@ -556,4 +612,38 @@ fn common(text: &str, spans: &SpanList, other: &str, places: &SpanList, most: us
         }
     }
     both
+}
+
+/// Where the sentence of a number begins; 0 where there is none.
+fn begin_in(spans: &SpanList, number: usize, len: usize) -> usize
+    requires { (text : List ℕ) × (length text ≡ len) × All (IsSpanOf text) spans.now }
+    ensures begin { result ≡ (span_of spans.now number).from }
+    ensures within { result ≤ len }
+{
+    match spans.as_slice().get(number) {
+        Some(span) => span.from as usize,
+        None => 0,
+    }
+}
+
+/// Where the sentence of a number ends; 0 where there is none.
+fn end_in(spans: &SpanList, number: usize, len: usize) -> usize
+    requires { (text : List ℕ) × (length text ≡ len) × All (IsSpanOf text) spans.now }
+    ensures end { result ≡ (span_of spans.now number).to }
+    ensures within { result ≤ len }
+{
+    match spans.as_slice().get(number) {
+        Some(span) => span.to as usize,
+        None => 0,
+    }
+}
+
+/// Adds the numbers of finished sentences.
+fn add_all<S: Drop>(numbers: &mut Vec<u64>, finished: &[Finished<S>]) -> Result<(), NoMem>
+    ensures { OnOk result (numbers.new.items ≡ numbers.old.items ++ map (λ f. f.number) finished.now) }
+{
+    for one in finished {
+        numbers.push(one.number)?;
+    }
+    Ok(())
 }

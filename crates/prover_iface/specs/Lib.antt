@@ -2,3 +2,4 @@ pub mod Sentences
 pub mod Meanings
 pub mod Exec
 pub mod Laws
+pub mod Listings
