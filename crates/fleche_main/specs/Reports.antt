@@ -7,6 +7,7 @@ use Rattle.utf16_doc.specs.Positions.{position_at}
 use Rattle.prover_iface.specs.declared.outline.ItemKind.{ItemKind}
 use Rattle.prover_iface.specs.declared.outline.ItemKind.TheVariants.{Axiom, Definition, Inductive, Theorem, Admitted}
 use Rattle.prover_iface.specs.declared.outline.OutlineItem.{OutlineItem}
+use Rattle.prover_iface.specs.Listings.{listed_axioms}
 use Rattle.doc_check.specs.declared.diagnostics.AbsDiag.{AbsDiag}
 use Rattle.doc_check.specs.declared.diagnostics.Report.{Report}
 
@@ -39,27 +40,6 @@ kind_word Definition = codes "definition"
 kind_word Inductive = codes "inductive"
 kind_word Theorem = codes "theorem"
 kind_word Admitted = codes "admitted"
-
--- the axioms of a definition or theorem are listed
-abbrev pub lists_axioms : ItemKind → Bool
-lists_axioms Axiom = false
-lists_axioms Definition = true
-lists_axioms Inductive = false
-lists_axioms Theorem = true
-lists_axioms Admitted = false
-
--- each name with a blank before it
-abbrev pub spaced : List (List ℕ) → List ℕ
-spaced [] = []
-spaced (name ∷ names) = codes " " ++ (name ++ spaced names)
-
--- ` [` the names, separated by one blank, `]`; nothing where there is none
-abbrev pub bracket : List (List ℕ) → List ℕ
-bracket [] = []
-bracket (name ∷ names) = codes " [" ++ (name ++ (spaced names ++ codes "]"))
-
-abbrev pub listed_axioms : OutlineItem → List ℕ
-listed_axioms item = if lists_axioms item.kind then bracket item.axioms else []
 
 -- `FILE: KIND NAME : STATEMENT`, and the listed axioms
 abbrev pub item_line : List ℕ → OutlineItem → List ℕ

@@ -2,13 +2,11 @@
 ghost use Rattle.std.specs.Prelude.{◌≡◌, ◌==◌, ◌++◌, ◌+◌, ◌<◌, ◌≤◌, All, IfOk, OnOk, length, string_bytes};
 ghost use Rattle.utf16_doc.specs.declared.encoding.Encoding.TheVariants.{Utf16};
 ghost use Rattle.doc_check.specs.Check.{IsPlaced};
-ghost use Rattle.fleche_main.specs.Reports.{severity_word, diag_line, diag_lines, kind_word, lists_axioms, spaced, bracket};
-ghost use Rattle.fleche_main.specs.Reports.{listed_axioms, item_line, item_lines, is_admitted, error_count, admission_count};
-ghost use Rattle.fleche_main.specs.Reports.{end_line, file_report};
+ghost use Rattle.fleche_main.specs.Reports.{severity_word, diag_line, diag_lines, kind_word, item_line, item_lines};
+ghost use Rattle.fleche_main.specs.Reports.{is_admitted, error_count, admission_count, end_line, file_report};
 
-use base_core::Text;
 use doc_check::{AbsDiag, Report};
-use prover_iface::{ItemKind, OutlineItem};
+use prover_iface::{ItemKind, OutlineItem, add_listed_axioms};
 use std::alloc::{AllocError, Global};
 use utf16_doc::Doc;
 
@@ -63,55 +61,6 @@ fn kind_word(kind: ItemKind) -> &'static str
     }
 }
 
-/// Whether the axioms of such a declaration are listed.
-fn lists_axioms(kind: ItemKind) -> bool
-    ensures { result ≡ lists_axioms kind }
-{
-    match kind {
-        ItemKind::Axiom => false,
-        ItemKind::Definition => true,
-        ItemKind::Inductive => false,
-        ItemKind::Theorem => true,
-        ItemKind::Admitted => false,
-    }
-}
-
-/// Each name with a blank before it.
-fn add_spaced(lines: &mut String, names: &[Text]) -> Result<(), AllocError>
-    ensures { OnOk result (string_bytes lines.new ≡ string_bytes lines.old ++ spaced names.now) }
-{
-    for name in names {
-        let name = name.as_str();
-        write!(lines, " {name}")?;
-    }
-    Ok(())
-}
-
-/// ` [` the names `]`, where there are some.
-fn add_bracket(lines: &mut String, names: &[Text]) -> Result<(), AllocError>
-    ensures { OnOk result (string_bytes lines.new ≡ string_bytes lines.old ++ bracket names.now) }
-{
-    match names {
-        [] => Ok(()),
-        [first, others @ ..] => {
-            let first = first.as_str();
-            write!(lines, " [{first}")?;
-            add_spaced(lines, others)?;
-            write!(lines, "]")
-        }
-    }
-}
-
-fn add_listed(lines: &mut String, item: &OutlineItem) -> Result<(), AllocError>
-    ensures { OnOk result (string_bytes lines.new ≡ string_bytes lines.old ++ listed_axioms item.now) }
-{
-    if lists_axioms(item.kind) {
-        add_bracket(lines, item.axioms.as_slice())
-    } else {
-        Ok(())
-    }
-}
-
 /// `FILE: KIND NAME : STATEMENT`, and the listed axioms.
 fn add_item(lines: &mut String, name: &str, item: &OutlineItem) -> Result<(), AllocError>
     ensures { OnOk result (string_bytes lines.new ≡ string_bytes lines.old ++ item_line name.now item.now) }
@@ -120,7 +69,7 @@ fn add_item(lines: &mut String, name: &str, item: &OutlineItem) -> Result<(), Al
     let declared = item.name.as_str();
     let statement = item.statement.as_str();
     write!(lines, "{name}: {kind} {declared} : {statement}")?;
-    add_listed(lines, item)?;
+    add_listed_axioms(lines, item)?;
     write!(lines, "\n")
 }
 

@@ -1,6 +1,6 @@
 -- How the steps of a session move its phase, and where they end it.
-use Rattle.std.proofs.Common.{◌≡◌, ℕ, ℤ, ◌||◌, Bool, true, false, Option, None, Some, Result, Ok, Err, List, refl, ◌∙◌, if◌then◌else◌, is_some, int_le, nat_le, length}
-use Rattle.base_core.specs.declared.limits.TheConstants.{DOCUMENT_LIMIT}
+use Rattle.std.proofs.Common.{◌≡◌, ℕ, ℤ, ◌||◌, Bool, true, false, Option, None, Some, Result, Ok, Err, List, refl, ◌∙◌, if◌then◌else◌, is_some, int_le, nat_le, length, position}
+use Rattle.base_core.specs.declared.limits.TheConstants.{DOCUMENT_LIMIT, WAITING_LIMIT}
 use Rattle.base_core.specs.declared.places.Change.{Change}
 use Rattle.lsp_types.specs.declared.messages.Id.{Id}
 use Rattle.lsp_types.specs.declared.messages.Call.{Call}
@@ -20,7 +20,10 @@ use Rattle.sched_core.specs.declared.events.Exit.{Exit}
 use Rattle.sched_core.specs.declared.phase.Phase.{Phase}
 use Rattle.sched_core.specs.declared.phase.Phase.TheVariants.{Fresh, Running, ShutDown}
 use Rattle.sched_core.specs.Step.{Step}
+use Rattle.sched_core.specs.declared.waiting.Waiting.{Waiting}
+use Rattle.sched_core.specs.declared.waiting.Question.TheVariants.{Outline, Goals as GoalsAt}
 use Rattle.sched_core.specs.Session.{Session, document_at, place_of, first_unended}
+use Rattle.sched_core.specs.Waiting.{is_ready, same_id, cancel_at, wait_for, ask_at, at_open, ask_outline_at, ask_goals_at, request_for, wanted_at}
 use Rattle.sched_core.specs.Documents.{at_known, is_too_long, text_behind, did_open, renew_by, change_at, close_at}
 use Rattle.sched_core.specs.Work.{grant_at, run_first, waits, idle}
 use Rattle.sched_core.specs.Messages.{by_phase, request_fresh, request_running, refuse_request, request, notify, notify_exit, notify_running, refuse_body, hear}
@@ -74,16 +77,31 @@ fresh_leads session id Shutdown e = record { phase = e; exit = refl }
 fresh_leads session id (Symbols uri) e = record { phase = e; exit = refl }
 fresh_leads session id (Goals uri position after) e = record { phase = e; exit = refl }
 
-running_leads : (session : Session) (id : Id) (call : Call) → session.phase ≡ Running → Leads (request_running id call session) (phase_after_call Running call) None
-running_leads session id (Initialize utf8) e = record { phase = e; exit = refl }
-running_leads session id Shutdown e = record { phase = refl; exit = refl }
-running_leads session id (Symbols uri) e = record { phase = e; exit = refl }
-running_leads session id (Goals uri position after) e = record { phase = e; exit = refl }
+-- a request about a document leaves the phase as it is
+ask_leads : (views : Views) (session : Session) (place : ℕ) (w : Waiting) → Leads (ask_at views place w session) session.phase None
+ask_leads views session place w =
+    leads_if (is_ready (document_at session place) w) _ (wait_for w session) _ _ (record { phase = refl; exit = refl })
+    (leads_if (nat_le WAITING_LIMIT (length session.waiting)) _ _ _ _ (record { phase = refl; exit = refl }) (record { phase = refl; exit = refl }))
 
-request_leads : (session : Session) (id : Id) (call : Call) (phase : Phase) → session.phase ≡ phase → Leads (by_phase phase (request_fresh id call session) (request_running id call session) (refuse_request error.InvalidRequest id session)) (phase_after_call phase call) None
-request_leads session id call Fresh e = fresh_leads session id call e
-request_leads session id call Running e = running_leads session id call e
-request_leads session id call ShutDown e = record { phase = e; exit = refl }
+at_open_leads : (session : Session) (id : Id) (place : Option ℕ) (next : ℕ → Session → Step Session) → ((place : ℕ) → Leads (next place session) session.phase None) → Leads (at_open id place next session) session.phase None
+at_open_leads session id None next go = record { phase = refl; exit = refl }
+at_open_leads session id (Some place) next go = go place
+
+running_by : (step : Step Session) (before : Phase) → before ≡ Running → Leads step before None → Leads step Running None
+running_by step before e h = record { phase = h.phase ∙ e; exit = h.exit }
+
+running_leads : (views : Views) (session : Session) (id : Id) (call : Call) → session.phase ≡ Running → Leads (request_running views id call session) (phase_after_call Running call) None
+running_leads views session id (Initialize utf8) e = record { phase = e; exit = refl }
+running_leads views session id Shutdown e = record { phase = refl; exit = refl }
+running_leads views session id (Symbols uri) e =
+    running_by _ session.phase e (at_open_leads session id (place_of uri session.documents) (ask_outline_at views id uri) (λ place. ask_leads views session place (request_for id uri Outline)))
+running_leads views session id (Goals uri at after) e =
+    running_by _ session.phase e (at_open_leads session id (place_of uri session.documents) (ask_goals_at views id uri at after) (λ place. ask_leads views session place (request_for id uri (GoalsAt at (wanted_at (document_at session place) at after)))))
+
+request_leads : (views : Views) (session : Session) (id : Id) (call : Call) (phase : Phase) → session.phase ≡ phase → Leads (by_phase phase (request_fresh id call session) (request_running views id call session) (refuse_request error.InvalidRequest id session)) (phase_after_call phase call) None
+request_leads views session id call Fresh e = fresh_leads session id call e
+request_leads views session id call Running e = running_leads views session id call e
+request_leads views session id call ShutDown e = record { phase = e; exit = refl }
 
 -- notifications
 exit_leads : (session : Session) (phase : Phase) (heard : Note) → session.phase ≡ phase → Leads (notify_exit (exit_in phase) heard session) phase (exit_by phase (Ok (incoming.Note heard)))
@@ -98,10 +116,14 @@ exit_leads session phase note.Trim e = record { phase = e; exit = refl }
 exit_leads session phase note.Other e = record { phase = e; exit = refl }
 exit_leads session phase note.BadNote e = record { phase = e; exit = refl }
 
+cancel_leads : (session : Session) (id : Id) (place : Option ℕ) → Leads (cancel_at id place session) session.phase None
+cancel_leads session id None = record { phase = refl; exit = refl }
+cancel_leads session id (Some place) = record { phase = refl; exit = refl }
+
 note_leads : (views : Views) (session : Session) (heard : Note) → Leads (notify_running views heard session) session.phase (exit_by Running (Ok (incoming.Note heard)))
 note_leads views session note.Initialized = record { phase = refl; exit = refl }
 note_leads views session note.Exit = record { phase = refl; exit = refl }
-note_leads views session (note.Cancel id) = record { phase = refl; exit = refl }
+note_leads views session (note.Cancel id) = cancel_leads session id (position (λ w. same_id w.id id) session.waiting)
 note_leads views session (note.DidOpen uri version text) = open_leads views session uri version text
 note_leads views session (note.DidChange uri version changes) = known session (place_of uri session.documents) _ (λ place. change_leads views session version changes place)
 note_leads views session (note.DidClose uri) = known session (place_of uri session.documents) _ (λ place. record { phase = refl; exit = refl })
@@ -125,7 +147,7 @@ body_leads session (fault.UnknownMethod id) = record { phase = refl; exit = refl
 body_leads session fault.NoMem = record { phase = refl; exit = refl }
 
 hear_leads : (views : Views) (session : Session) (message : Message) → Leads (hear views message session) (phase_after session.phase message) (exit_by session.phase message)
-hear_leads views session (Ok (incoming.Request id call)) = request_leads session id call session.phase refl
+hear_leads views session (Ok (incoming.Request id call)) = request_leads views session id call session.phase refl
 hear_leads views session (Ok (incoming.Note heard)) = notify_leads views session heard session.phase refl
 hear_leads views session (Ok incoming.Reply) = record { phase = refl; exit = refl }
 hear_leads views session (Err why) = body_leads session why

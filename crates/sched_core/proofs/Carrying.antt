@@ -1,11 +1,11 @@
 -- Numbers stand for what they stood for, from call to call.
-use Rattle.std.proofs.Common.{◌≡◌, ℕ, ◌<◌, ◌≤◌, List, refl, ap, sym, ◌∙◌, arith}
+use Rattle.std.proofs.Common.{◌≡◌, ℕ, ◌≤◌, List, refl, ◌∙◌, arith}
 use Rattle.prover_iface.specs.Sentences.{Sentence}
 use Rattle.prover_iface.specs.Meanings.{Meanings}
 use Rattle.memo_table.specs.Table.{Table, with_rows}
 use Rattle.memo_table.specs.Fits.{Fits}
-use Rattle.doc_check.specs.Document.{Doc, taken, took}
-use Rattle.doc_check.specs.Stands.{Follows, Stands, Moved}
+use Rattle.doc_check.specs.Document.{Doc}
+use Rattle.doc_check.specs.Stands.{Follows, Stands}
 use Rattle.doc_check.proofs.Advancing.{taken_moved}
 use Rattle.sched_core.specs.Coming.{Carries}
 

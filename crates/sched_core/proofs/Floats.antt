@@ -9,9 +9,10 @@ use Rattle.doc_check.specs.declared.diagnostics.AbsDiag.{AbsDiag}
 use Rattle.lsp_types.specs.Bodies.{note_body}
 use Rattle.utf16_doc.specs.Indexed.{Document as Indexed, position_in}
 use Rattle.doc_check.specs.Document.{next_span}
-use Rattle.sched_core.specs.Session.{Document}
-use Rattle.sched_core.specs.Documents.{positions, progress_from}
-use Rattle.sched_core.specs.Bodies.{progress_body, range_data, processing_data, progress_data, diag_data, diags_data, diags_body, log_data}
+use Rattle.sched_core.specs.Session.{Document, positions}
+use Rattle.sched_core.specs.Documents.{progress_from}
+use Rattle.goals_query.specs.Places.{range_data}
+use Rattle.sched_core.specs.Bodies.{progress_body, processing_data, progress_data, diag_data, diags_data, diags_body, log_data}
 
 whole : (z : ℤ) → is_float (of_integer z) ≡ false
 whole (pos n) = refl

@@ -1,5 +1,5 @@
 -- How many steps without a message are left behind a step.
-use Rattle.std.proofs.Common.{◌≡◌, ℕ, zero, suc, ◌+◌, ◌-◌, ◌<◌, ◌≤◌, ◌||◌, Bool, not, true, false, nat_le, int_le, None, Some, is_some, Option, Ok, Err, Result, List, [], ◌∷◌, ◌++◌, length, get_or, length-append, length-set, if◌then◌else◌, arith, subst, sym, refl, ap, ◌∙◌, All}
+use Rattle.std.proofs.Common.{◌≡◌, ℕ, ◌+◌, ◌<◌, ◌≤◌, ◌||◌, Bool, not, true, false, nat_le, int_le, None, Some, is_some, Option, Ok, Err, Result, List, [], ◌∷◌, ◌++◌, length, length-append, length-set, if◌then◌else◌, arith, sym, refl, ap, ◌∙◌}
 use Rattle.std.specs.List.{sum_by, remove, slice_set}
 use Rattle.std.specs.Result.{IfOk}
 use Rattle.std.proofs.lemmas.Bool.{ltb-false, leb-false}
@@ -7,8 +7,8 @@ use Rattle.std.proofs.lemmas.List.Sums.{sum_by_push, sum_by-set, sum_by-remove}
 use Rattle.std.proofs.lemmas.List.Elements.{All-get_or}
 use Rattle.std.proofs.lemmas.List.Quantifiers.{position-Some}
 use Rattle.std.specs.Str.{bytes_eq}
-use Rattle.std.specs.Prelude.{codes}
-use Rattle.base_core.specs.declared.limits.TheConstants.{TEXT_LIMIT, DOCUMENT_LIMIT}
+use Rattle.std.specs.Prelude.{codes, position}
+use Rattle.base_core.specs.declared.limits.TheConstants.{TEXT_LIMIT, DOCUMENT_LIMIT, WAITING_LIMIT}
 use Rattle.base_core.specs.declared.places.Change.{Change}
 use Rattle.utf16_doc.specs.declared.encoding.Encoding.{Encoding}
 use Rattle.utf16_doc.specs.declared.stops.DocStop.{DocStop}
@@ -25,21 +25,26 @@ use Rattle.lsp_types.specs.declared.messages.Incoming.TheVariants as incoming
 use Rattle.lsp_types.specs.declared.messages.DecodeFault.{DecodeFault}
 use Rattle.lsp_types.specs.declared.messages.DecodeFault.TheVariants as fault
 use Rattle.doc_check.specs.Check.{count, Views}
-use Rattle.doc_check.specs.Document.{done, all_done, changed}
+use Rattle.doc_check.specs.Document.{done, all_done}
 use Rattle.lsp_types.specs.declared.error_codes.ErrorCode.TheVariants as error
+use Rattle.lsp_types.specs.declared.error_codes.ErrorCode.TheVariants.{TooManyWaiting}
+use Rattle.lsp_types.specs.Bodies.{error_body}
 use Rattle.sched_core.specs.declared.events.Exit.{Exit}
 use Rattle.sched_core.specs.declared.events.Exit.TheVariants.{Early, Clean}
 use Rattle.sched_core.specs.declared.events.Event.{Event}
 use Rattle.sched_core.specs.declared.events.Event.TheVariants as event
 use Rattle.sched_core.specs.declared.phase.Phase.{Phase}
 use Rattle.sched_core.specs.declared.phase.Phase.TheVariants.{Fresh, Running, ShutDown}
-use Rattle.sched_core.specs.Step.{Step, stays}
-use Rattle.sched_core.specs.Session.{Document, Session, document_in, document_at, place_of, first_unended, unfinished, idles, AreShort, unchecked, set_documents, update}
-use Rattle.sched_core.specs.Documents.{refuse, at_known, is_too_long, edited_text, text_behind, add, did_open, renew, renewed, renew_by, change_at, close_at}
+use Rattle.sched_core.specs.Step.{Step, stays, says, and_then}
+use Rattle.sched_core.specs.Session.{Document, Session, document_in, document_at, place_of, first_unended, unfinished, idles, AreShort, unchecked, set_documents, set_waiting, update}
+use Rattle.sched_core.specs.declared.waiting.Waiting.{Waiting}
+use Rattle.sched_core.specs.declared.waiting.Question.TheVariants.{Outline, Goals as GoalsAt}
+use Rattle.sched_core.specs.Waiting.{outdate, answer, answer_ready, is_ready, same_id, cancel, cancel_at, wait_for, ask_at, at_open, ask_outline_at, ask_goals_at, request_for, wanted_at}
+use Rattle.sched_core.specs.Trim.{trim}
+use Rattle.sched_core.specs.Documents.{refuse, at_known, is_too_long, edited_text, text_behind, add, did_open, begin_again, renew, renewed, renew_by, change_at, close_at}
 use Rattle.sched_core.specs.Done.{Came, with_check, take_kept, came}
-use Rattle.sched_core.specs.Work.{spent_on, ran_on, granted, grant_at, run_at, run_first, is_shut_down, all_ended, waits}
-use Rattle.sched_core.specs.Messages.{by_phase, request, request_fresh, request_running, refuse_request, notify, notify_exit, notify_running, refuse_body, hear}
-use Rattle.sched_core.specs.Messages as messages
+use Rattle.sched_core.specs.Work.{spent_on, ran_on, granted, grant_at, run_at, run_first, is_shut_down, waits}
+use Rattle.sched_core.specs.Messages.{by_phase, request_fresh, request_running, refuse_request, notify_exit, notify_running, refuse_body, hear}
 use Rattle.sched_core.specs.Plain.{step, IdlesLeft}
 use Rattle.sched_core.proofs.Kept.{IsShort}
 use Rattle.sched_core.proofs.Few.{few}
@@ -120,11 +125,17 @@ open_adds views uri version text session =
     (λ f. if_adds session (is_too_long text) (refuse (codes "text too long") session) new (none_added session (refuse (codes "text too long") session) refl)
     (λ g. adds session new (opened_at session (unchecked uri version session.encoding text) (fits text g)))))
 
+begun_adds : (views : Views) (version : _) (session : Session) (place : ℕ) (text : List ℕ) → place < length session.documents → length text ≤ TEXT_LIMIT → Adds session (begin_again views place version text session)
+begun_adds views version session place text within short =
+    let new : Session = update place (renewed version text) session in
+    adds session (begin_again views place version text session)
+    (omega (arith, taken_at new place (omega (arith, within, length-set session.documents place (renewed version text (document_at session place)))), set_at session.documents place (renewed version text (document_at session place)) within short))
+
 renew_adds : (views : Views) (version : _) (session : Session) (place : ℕ) (text : Result (List ℕ) DocStop) → place < length session.documents → IfOk text (λ t. length t ≤ TEXT_LIMIT) → Adds session (renew_by views place version text session)
 renew_adds views version session place (Ok text) within short =
-    let new : Session = update place (renewed version text) session in
+    let mid : Session = (outdate (document_at session place).uri session).state in
     adds session (renew views place version text session)
-    (omega (arith, taken_at new place (omega (arith, within, length-set session.documents place (renewed version text (document_at session place)))), set_at session.documents place (renewed version text (document_at session place)) within short))
+    (added mid (begin_again views place version text mid) (begun_adds views version mid place text within short))
 renew_adds views version session place (Err RangeReversed) within short = none_added session (refuse (codes "range reversed") session) refl
 renew_adds views version session place (Err TooLong) within short = none_added session (refuse (codes "text too long") session) refl
 renew_adds views version session place (Err NoMem) within short = none_added session (stays session) refl
@@ -150,12 +161,30 @@ spent_at views units session place within =
 grant_adds : (views : Views) (units : ℕ) (session : Session) (place : ℕ) → place < length session.documents → Adds session (grant_at views units place session)
 grant_adds views units session place within =
     if_adds session (all_done (document_at session place).check) _ _ (none_added session (stays session) refl)
-    (λ e. adds session (granted views units place session) (omega (arith, spent_at views units session place within)))
+    (λ e. adds session (and_then (granted views units place session) (answer_ready views place)) (omega (arith, spent_at views units session place within)))
+
+-- a request leaves the documents as they are
+cancel_same : (id : Id) (found : Option ℕ) (session : Session) → (cancel_at id found session).state.documents ≡ session.documents
+cancel_same id None session = refl
+cancel_same id (Some place) session = refl
+
+if_same : (b : Bool) (x y : Step Session) (documents : List Document) → x.state.documents ≡ documents → y.state.documents ≡ documents → (if b then x else y).state.documents ≡ documents
+if_same true x y documents h k = h
+if_same false x y documents h k = k
+
+ask_same : (views : Views) (place : ℕ) (w : Waiting) (session : Session) → (ask_at views place w session).state.documents ≡ session.documents
+ask_same views place w session =
+    if_same (is_ready (document_at session place) w) (says (answer views (document_at session place) w ∷ []) session) (wait_for w session) session.documents refl
+    (if_same (nat_le WAITING_LIMIT (length session.waiting)) (says (error_body w.id TooManyWaiting ∷ []) session) (stays (set_waiting (session.waiting ++ w ∷ []) session)) session.documents refl refl)
+
+open_same : (id : Id) (found : Option ℕ) (next : ℕ → Session → Step Session) (session : Session) → ((place : ℕ) → (next place session).state.documents ≡ session.documents) → (at_open id found next session).state.documents ≡ session.documents
+open_same id None next session h = refl
+open_same id (Some place) next session h = h place
 
 note_adds : (views : Views) (heard : Note) (session : Session) → AreShort session.documents → Adds session (notify_running views heard session)
 note_adds views note.Initialized session short = none_added session (stays session) refl
 note_adds views note.Exit session short = none_added session (notify_running views note.Exit session) refl
-note_adds views (note.Cancel id) session short = none_added session (stays session) refl
+note_adds views (note.Cancel id) session short = none_added session (cancel id session) (cancel_same id (position (λ w. same_id w.id id) session.waiting) session)
 note_adds views (note.DidOpen uri version text) session short = open_adds views uri version text session
 note_adds views (note.DidChange uri version changes) session short = known_adds session uri (place_of uri session.documents) (change_at views version changes) refl (change_adds views version changes session short)
 note_adds views (note.DidClose uri) session short = known_adds session uri (place_of uri session.documents) close_at refl (λ place within. adds session (close_at place session) (removed_at session.documents place within))
@@ -163,7 +192,7 @@ note_adds views (note.Grant uri units) session short = by session.paced where
   by : (b : Bool) → Adds session (if b then at_known (place_of uri session.documents) (grant_at views units) session else stays session)
   by true = known_adds session uri (place_of uri session.documents) (grant_at views units) refl (grant_adds views units session)
   by false = none_added session (stays session) refl
-note_adds views note.Trim session short = none_added session (stays session) refl
+note_adds views note.Trim session short = none_added session (stays (trim session)) refl
 note_adds views note.Other session short = none_added session (stays session) refl
 note_adds views note.BadNote session short = none_added session (refuse (codes "invalid params") session) refl
 
@@ -190,11 +219,14 @@ fresh_same id Shutdown session = refl
 fresh_same id (Symbols uri) session = refl
 fresh_same id (Goals uri position after) session = refl
 
-running_same : (id : Id) (call : Call) (session : Session) → (request_running id call session).state.documents ≡ session.documents
-running_same id (Initialize utf8) session = refl
-running_same id Shutdown session = refl
-running_same id (Symbols uri) session = refl
-running_same id (Goals uri position after) session = refl
+running_same : (views : Views) (id : Id) (call : Call) (session : Session) → (request_running views id call session).state.documents ≡ session.documents
+running_same views id (Initialize utf8) session = refl
+running_same views id Shutdown session = refl
+running_same views id (Symbols uri) session =
+    open_same id (place_of uri session.documents) (ask_outline_at views id uri) session (λ place. ask_same views place (request_for id uri Outline) session)
+running_same views id (Goals uri at after) session =
+    open_same id (place_of uri session.documents) (ask_goals_at views id uri at after) session
+    (λ place. ask_same views place (request_for id uri (GoalsAt at (wanted_at (document_at session place) at after))) session)
 
 body_same : (why : DecodeFault) (session : Session) → (refuse_body why session).state.documents ≡ session.documents
 body_same fault.NotJson session = refl
@@ -205,8 +237,8 @@ body_same fault.NoMem session = refl
 
 hear_adds : (views : Views) (message : Result Incoming DecodeFault) (session : Session) → AreShort session.documents → Adds session (hear views message session)
 hear_adds views (Ok (incoming.Request id call)) session short =
-    by_phase_adds session session.phase (request_fresh id call session) (request_running id call session) (refuse_request error.InvalidRequest id session)
-    (none_added session (request_fresh id call session) (fresh_same id call session)) (none_added session (request_running id call session) (running_same id call session)) (none_added session (refuse_request error.InvalidRequest id session) refl)
+    by_phase_adds session session.phase (request_fresh id call session) (request_running views id call session) (refuse_request error.InvalidRequest id session)
+    (none_added session (request_fresh id call session) (fresh_same id call session)) (none_added session (request_running views id call session) (running_same views id call session)) (none_added session (refuse_request error.InvalidRequest id session) refl)
 hear_adds views (Ok (incoming.Note heard)) session short =
     by_phase_adds session session.phase (notify_exit Early heard session) (notify_running views heard session) (notify_exit Clean heard session)
     (none_added session (notify_exit Early heard session) (exit_same Early heard session)) (note_adds views heard session short) (none_added session (notify_exit Clean heard session) (exit_same Clean heard session))

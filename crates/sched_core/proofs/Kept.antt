@@ -1,15 +1,19 @@
 -- The texts of all documents stay within the limit, and their numbers stand in the table.
-use Rattle.std.proofs.Common.{◌≡◌, ℕ, ℤ, ◌+◌, ◌<◌, ◌≤◌, suc, Result, Ok, Err, OnOk, OnErr, List, [], ◌∷◌, ◌++◌, length, get_or, take, drop, remove, slice_set, arith, refl, sym, subst, ap, ◌∙◌, All}
+use Rattle.std.proofs.Common.{◌≡◌, ℕ, ℤ, ◌<◌, ◌≤◌, suc, Result, Ok, Err, OnOk, OnErr, List, [], ◌∷◌, ◌++◌, length, get_or, take, drop, remove, slice_set, arith, refl, sym, subst, ap, ◌∙◌, All}
 use Rattle.std.proofs.lemmas.List.Elements.{All-nil, All-append, All-push, All-set, All-take, All-drop, All-get_or}
 use Rattle.base_core.specs.declared.limits.TheConstants.{TEXT_LIMIT}
 use Rattle.utf16_doc.specs.declared.encoding.Encoding.{Encoding}
 use Rattle.prover_iface.specs.Sentences.{Sentence}
 use Rattle.prover_iface.specs.Meanings.{Meanings}
-use Rattle.memo_table.specs.Table.{Table, table}
-use Rattle.doc_check.specs.Document.{Doc, changed}
+use Rattle.memo_table.specs.Entries.{trimmed, plain_entries}
+use Rattle.memo_table.specs.Table.{Table, table, with_rows}
+use Rattle.memo_table.proofs.Plain.{plain_trimmed}
+use Rattle.memo_table.proofs.Standing.{trimmed_fits}
+use Rattle.doc_check.specs.Document.{Doc}
 use Rattle.doc_check.specs.Stands.{Follows, Stands}
 use Rattle.doc_check.proofs.Advancing.{changed_follows}
-use Rattle.sched_core.specs.Session.{Document, document_in, AreShort, Holds}
+use Rattle.sched_core.specs.Session.{Document, Session, document_in, AreShort, Holds, held_in, held_rows, set_held}
+use Rattle.sched_core.specs.Trim.{numbers_in_use, trim}
 use Rattle.sched_core.specs.Documents.{restarted}
 use Rattle.sched_core.specs.Coming.{Carries}
 use Rattle.sched_core.proofs.Carrying.{follows_still}
@@ -87,3 +91,20 @@ module _ {S M : Type 0} (meaning : S → M) (means : Meanings M) where
     fits = record { zero = refl; root = first; rows = λ x none. absurd (omega (arith, none.1)) };
     follow = All-nil (InTable (λ n. []) 0);
   })
+
+  -- numbers that are forgotten, or none where memory ran out
+  pub holds_trimmed : {A E : Type 0} (t u : Table S) (documents : List Document) (hold : List ℕ) (result : Result A E) → Holds meaning means t documents → OnOk result (u ≡ with_rows t (trimmed hold t.rows)) → OnErr result (u ≡ t) → Holds meaning means u documents
+  holds_trimmed t u documents hold (Ok a) h done undone =
+      subst (λ v. Holds meaning means v documents) (sym done)
+      (record { short = h.short; prefix = h.prefix; fits = trimmed_fits meaning means h.prefix t hold h.fits; follow = h.follow })
+  holds_trimmed t u documents hold (Err e) h done undone = subst (λ v. Holds meaning means v documents) (sym undone) h
+
+-- what is held then, in a session that holds what a table does
+pub trim_shown : {S A E : Type 0} (t u : Table S) (inside session : Session) (hold : List ℕ) (result : Result A E) → inside ≡ session → inside.held ≡ held_in t → hold ≡ numbers_in_use inside.documents → OnOk result (u ≡ with_rows t (trimmed hold t.rows)) → OnOk result (set_held inside.documents (held_in u) inside ≡ trim session)
+trim_shown {S} t u inside session hold (Ok a) same held is done =
+    ap (λ v. set_held inside.documents (held_in v) inside) done
+    ∙ ap (λ rows. set_held inside.documents (held_rows t.given rows) inside) (plain_trimmed S hold t.rows)
+    ∙ ap (λ ns. set_held inside.documents (held_rows t.given (trimmed ns (plain_entries t.rows))) inside) is
+    ∙ ap (λ h. set_held inside.documents (held_rows h.given (trimmed (numbers_in_use inside.documents) h.rows)) inside) (sym held)
+    ∙ ap trim same
+trim_shown t u inside session hold (Err e) same held is done = tt

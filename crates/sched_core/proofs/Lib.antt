@@ -8,5 +8,5 @@ pub mod Spending
 pub mod Idles
 pub mod Kept
 pub mod Made
-pub mod Free
 pub mod Settled
+pub mod Answering

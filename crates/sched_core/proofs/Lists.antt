@@ -1,5 +1,5 @@
 -- Steps through lists.
-use Rattle.std.proofs.Common.{◌≡◌, ℕ, suc, ◌+◌, ◌-◌, ◌<◌, ◌≤◌, List, [], ◌∷◌, ◌++◌, map, length, get_or, drop, append_assoc, sym, ◌∙◌, ap, arith}
+use Rattle.std.proofs.Common.{◌≡◌, ℕ, suc, ◌+◌, ◌<◌, Bool, true, false, if◌then◌else◌, List, [], ◌∷◌, ◌++◌, map, filter, length, get_or, drop, append_assoc, sym, ◌∙◌, ap, arith, refl}
 use Rattle.std.proofs.Math.Seq.{drop-cons}
 use Rattle.std.proofs.lemmas.List.{map-append}
 use Rattle.serde_json.specs.Data.{Data}
@@ -20,4 +20,21 @@ diags_more at diags i diag values new value within is grown seen same =
     ∙ append_assoc (map view values) (view value ∷ []) rest
     ∙ ap (λ d. map view values ++ d ∷ rest) seen
     ∙ ap (λ ds. map view values ++ map (diag_data at) ds) (sym parts)
+    ∙ same
+
+one_of : {A : Type 0} (f : A → List ℕ) (b : Bool) (x : A) (rest : List A) → map f (if b then x ∷ rest else rest) ≡ (if b then f x ∷ [] else []) ++ map f rest
+one_of f true x rest = refl
+one_of f false x rest = refl
+
+-- one item more, of those that are meant
+pub those_more : {A : Type 0} (which : A → Bool) (f : A → List ℕ) (xs : List A) (i : ℕ) (x : A) (before now whole : List (List ℕ)) → i < length xs → x ≡ get_or xs i x → now ≡ before ++ (if which x then f x ∷ [] else []) → before ++ map f (filter which (drop i xs)) ≡ whole → now ++ map f (filter which (drop (i + 1) xs)) ≡ whole
+those_more which f xs i x before now whole within is grown same =
+    let next : suc i ≡ i + 1 = omega arith in
+    let due : List (List ℕ) = if which x then f x ∷ [] else [] in
+    let rest = filter which (drop (i + 1) xs) in
+    let parts : drop i xs ≡ x ∷ drop (i + 1) xs = drop-cons xs i x within ∙ ap (λ d. d ∷ drop (suc i) xs) (sym is) ∙ ap (λ n. x ∷ drop n xs) next in
+    ap (λ bs. bs ++ map f rest) grown
+    ∙ append_assoc before due (map f rest)
+    ∙ ap (λ bs. before ++ bs) (sym (one_of f (which x) x rest))
+    ∙ ap (λ ws. before ++ map f (filter which ws)) (sym parts)
     ∙ same

@@ -1,7 +1,7 @@
 -- A step of the documents is that of the message.
-use Rattle.std.proofs.Common.{◌≡◌, ℕ, ℤ, ◌+◌, ◌<◌, ◌≤◌, int_le, Bool, not, false, true, None, Some, Result, Ok, Err, OnOk, IfOk, codes, List, [], ◌∷◌, ◌++◌, length, get_or, slice_set, nat_le, refl, ap, sym, subst, ◌∙◌, arith, if◌then◌else◌}
-use Rattle.std.proofs.lemmas.Bool.{lt-leb, le-leb}
-use Rattle.std.proofs.lemmas.List.{get_or_read, get_or-set_same}
+use Rattle.std.proofs.Common.{◌≡◌, ℕ, ℤ, ◌+◌, ◌<◌, ◌≤◌, int_le, false, None, Some, Result, Ok, Err, OnOk, IfOk, codes, List, [], ◌∷◌, ◌++◌, length, get_or, slice_set, nat_le, append_assoc, refl, ap, sym, subst, ◌∙◌, arith}
+use Rattle.std.proofs.lemmas.Bool.{lt-leb}
+use Rattle.std.proofs.lemmas.List.{get_or_read}
 use Rattle.base_core.specs.declared.limits.TheConstants.{TEXT_LIMIT, DOCUMENT_LIMIT}
 use Rattle.base_core.specs.declared.memory.NoMem.{NoMem}
 use Rattle.base_core.specs.declared.places.Change.{Change}
@@ -12,16 +12,17 @@ use Rattle.lsp_types.specs.declared.messages.Note.{Note}
 use Rattle.lsp_types.specs.declared.messages.Note.TheVariants as note
 use Rattle.prover_iface.specs.Exec.{Worked}
 use Rattle.doc_check.specs.Check.{Views}
-use Rattle.doc_check.specs.Document.{done, all_done}
+use Rattle.doc_check.specs.Document.{done as doc_done, all_done}
 use Rattle.sched_core.specs.declared.events.Written.{Written}
 use Rattle.sched_core.specs.declared.events.Event.{Event}
 use Rattle.sched_core.specs.declared.open_document.NewText.{NewText}
-use Rattle.sched_core.specs.Step.{Step, Makes}
-use Rattle.sched_core.specs.Session.{Document, Session, document_in, document_at, place_of, unchecked, idles, AreShort, Held, set_documents, update}
-use Rattle.sched_core.specs.Done.{Came, take_kept, with_check, came}
+use Rattle.sched_core.specs.Step.{Step, Adds, Makes, and_then}
+use Rattle.sched_core.specs.Waiting.{outdate, answer_ready}
+use Rattle.sched_core.specs.Session.{Document, Session, document_in, document_at, place_of, unchecked, AreShort, Held, set_documents, update}
+use Rattle.sched_core.specs.Done.{Came, with_check, came}
 use Rattle.sched_core.specs.Coming.{Comes}
-use Rattle.sched_core.specs.Work.{spent_on, progress_since, granted, grant_at}
-use Rattle.sched_core.specs.Documents.{settle, renewed, restarted, status_bodies, is_too_long, did_open, add, did_change, change_at, renew, renew_by, text_behind, Edits, refuse, did_close}
+use Rattle.sched_core.specs.Work.{spent_on, ran_on, progress_since, pair_at_end, granted, grant_at, run_on, run_at}
+use Rattle.sched_core.specs.Documents.{settle, renewed, restarted, is_too_long, did_open, add, did_change, change_at, begin_again, renew, renew_by, text_behind, Edits, refuse, did_close, take_away, close_at}
 use Rattle.sched_core.specs.Bodies.{log_body}
 use Rattle.sched_core.specs.Messages.{notify_running, notify_grant}
 use Rattle.sched_core.specs.Plain.{step, IdlesLeft}
@@ -35,6 +36,19 @@ open_is views session uri version text none few short =
     let room : nat_le DOCUMENT_LIMIT (length session.documents) ≡ false = lt-leb DOCUMENT_LIMIT (length session.documents) few in
     let fits : is_too_long text ≡ false = lt-leb (TEXT_LIMIT + 1) (length text) (omega (arith, short)) in
     rw (none, room, fits) refl
+
+-- a step that adds its bodies to none
+made_of : (step : Step Session) (before bodies : List (List ℕ)) (done : Unit {0}) (w : Written) (state : Session) → before ≡ [] → step.exit ≡ None → Adds {E = NoMem} step before (Ok done) bodies state → w.bodies ≡ bodies → w.exit ≡ None → Makes step (Ok w) state
+made_of step before bodies done w state none goes_on adds wrote stays = (wrote ∙ adds.0 ∙ ap (λ b. b ++ step.bodies) none, stays ∙ sym goes_on, adds.1)
+
+-- one step after another
+then_adds : {E : Type 0} (first : Step Session) (next : Session → Step Session) (before mid now : List (List ℕ)) (done : Unit {0}) (r : Result (Unit {0}) E) (state new : Session) → first.exit ≡ None → Adds {E = E} first before (Ok done) mid state → Adds (next state) mid r now new → Adds (and_then first next) before r now new
+then_adds first next before mid now done (Err e) state new goes_on one two = tt
+then_adds first next before mid now done (Ok also) state new goes_on one two =
+    rw goes_on (
+      two.0 ∙ ap (λ b. b ++ (next state).bodies) one.0 ∙ append_assoc before first.bodies (next state).bodies ∙ ap (λ s. before ++ (first.bodies ++ (next s).bodies)) one.1,
+      two.1 ∙ ap (λ s. (next s).state) one.1,
+    )
 
 -- a document is opened
 pub open_made : (views : Views) (session : Session) (uri : List ℕ) (version : ℤ) (text : List ℕ) (document : Document) (r : Result Written NoMem) (after : Session) → place_of uri session.documents ≡ None → length session.documents < DOCUMENT_LIMIT → length text ≤ TEXT_LIMIT → document ≡ unchecked uri version session.encoding text → Makes (add views document session) r after → Makes (did_open views uri version text session) r after
@@ -115,22 +129,45 @@ pub granted_made : (views : Views) (session : Session) (heard : Note) (uri : Lis
 granted_made views session heard uri units name r after e f made =
     same_step (notify_running views heard session) (notify_grant views name units session) r after (grant_is views session heard uri units name e f) made
 
-granted_is : (views : Views) (session : Session) (units place : ℕ) → all_done (document_at session place).check ≡ false → grant_at views units place session ≡ granted views units place session
+granted_is : (views : Views) (session : Session) (units place : ℕ) → all_done (document_at session place).check ≡ false → grant_at views units place session ≡ and_then (granted views units place session) (answer_ready views place)
 granted_is views session units place left = rw left refl
 
+granted_adds : (views : Views) (session mid : Session) (units place before : ℕ) (bodies : List (List ℕ)) → before ≡ doc_done (document_at session place).check → mid ≡ came place (spent_on views units (document_at session place) session.held) session → bodies ≡ progress_since views before (document_at mid place) → Adds {E = NoMem} (granted views units place session) [] (Ok tt) bodies mid
+granted_adds views session mid units place before bodies from put told =
+    (told ∙ ap (λ n. progress_since views n (document_at mid place)) from ∙ ap (λ s. progress_since views (doc_done (document_at session place).check) (document_at s place)) put, put)
+
 -- units for a document that is not ended
-pub grant_made : (views : Views) (session new : Session) (units place before : ℕ) (w : Written) (bodies : List (List ℕ)) → all_done (document_at session place).check ≡ false → before ≡ done (document_at session place).check → new ≡ came place (spent_on views units (document_at session place) session.held) session → w.bodies ≡ bodies → w.exit ≡ None → bodies ≡ progress_since views before (document_at new place) → Makes (grant_at views units place session) (Ok w) new
-grant_made views session new units place before w bodies left from put wrote stays told =
-    same_step (grant_at views units place session) (granted views units place session) (Ok w) new (granted_is views session units place left)
-    (wrote ∙ told ∙ ap (λ n. progress_since views n (document_at new place)) from ∙ ap (λ s. progress_since views (done (document_at session place).check) (document_at s place)) put, stays, put)
+pub grant_made : (views : Views) (session mid new : Session) (units place before : ℕ) (first bodies : List (List ℕ)) (done : Unit {0}) (w : Written) → all_done (document_at session place).check ≡ false → before ≡ doc_done (document_at session place).check → mid ≡ came place (spent_on views units (document_at session place) session.held) session → first ≡ progress_since views before (document_at mid place) → Adds {E = NoMem} (answer_ready views place mid) first (Ok done) bodies new → w.bodies ≡ bodies → w.exit ≡ None → Makes (grant_at views units place session) (Ok w) new
+grant_made views session mid new units place before first bodies done w left from put told answered wrote stays =
+    same_step (grant_at views units place session) (and_then (granted views units place session) (answer_ready views place)) (Ok w) new (granted_is views session units place left)
+    (made_of (and_then (granted views units place session) (answer_ready views place)) [] bodies done w new refl refl
+    (then_adds {E = NoMem} (granted views units place session) (answer_ready views place) [] first bodies tt (Ok done) mid new refl (granted_adds views session mid units place before first from put told) answered) wrote stays)
+
+-- a document that takes what is held, and then runs
+pub run_made : (views : Views) (session mid new : Session) (place : ℕ) (first bodies : List (List ℕ)) (done : Unit {0}) (w : Written) → mid ≡ came place (ran_on views (document_at session place) session.held) session → first ≡ pair_at_end views (document_at mid place) → Adds {E = NoMem} (answer_ready views place mid) first (Ok done) bodies new → w.bodies ≡ bodies → w.exit ≡ None → Makes (run_at views place session) (Ok w) new
+run_made views session mid new place first bodies done w put told answered wrote stays =
+    made_of (run_at views place session) [] bodies done w new refl refl
+    (then_adds {E = NoMem} (run_on views place session) (answer_ready views place) [] first bodies tt (Ok done) mid new refl (told ∙ ap (λ s. pair_at_end views (document_at s place)) put, put) answered) wrote stays
 
 restarted_is : (session : Session) (place : ℕ) (version : ℤ) (encoding : Encoding) (text : List ℕ) → encoding ≡ (document_at session place).encoding → update place (restarted version encoding text) session ≡ update place (renewed version text) session
 restarted_is session place version encoding text same = ap (λ e. update place (restarted version e text) session) same
 
 -- a document's new version
-pub renew_made : (views : Views) (session mid new : Session) (place : ℕ) (version : ℤ) (encoding : Encoding) (text : List ℕ) (r : Result Written NoMem) → encoding ≡ (document_at session place).encoding → mid ≡ update place (restarted version encoding text) session → Makes (settle views place mid) r new → Makes (renew views place version text session) r new
-renew_made views session mid new place version encoding text r same is made =
-    subst (λ s. Makes (settle views place s) r new) (is ∙ restarted_is session place version encoding text same) made
+pub begun_adds : {E : Type 0} (views : Views) (session mid new : Session) (place : ℕ) (version : ℤ) (encoding : Encoding) (text : List ℕ) (before now : List (List ℕ)) (r : Result (Unit {0}) E) → encoding ≡ (document_at session place).encoding → mid ≡ update place (restarted version encoding text) session → Adds (settle views place mid) before r now new → Adds (begin_again views place version text session) before r now new
+begun_adds views session mid new place version encoding text before now r same is made =
+    subst (λ s. Adds (settle views place s) before r now new) (is ∙ restarted_is session place version encoding text same) made
+
+pub renew_made : (views : Views) (session mid new : Session) (place : ℕ) (version given : ℤ) (text : List ℕ) (before first bodies : List (List ℕ)) (one two : Unit {0}) (w : Written) → given ≡ version → before ≡ [] → Adds {E = NoMem} (outdate (document_at session place).uri session) before (Ok one) first mid → Adds {E = NoMem} (begin_again views place given text mid) first (Ok two) bodies new → w.bodies ≡ bodies → w.exit ≡ None → Makes (renew views place version text session) (Ok w) new
+renew_made views session mid new place version given text before first bodies one two w same none refused begun wrote stays =
+    made_of (renew views place version text session) before bodies two w new none refl
+    (then_adds {E = NoMem} (outdate (document_at session place).uri session) (begin_again views place version text) before first bodies one (Ok two) mid new refl refused
+    (subst (λ v. Adds {E = NoMem} (begin_again views place v text mid) first (Ok two) bodies new) same begun)) wrote stays
+
+-- a document is closed
+pub close_made : (session mid new : Session) (place : ℕ) (before first bodies : List (List ℕ)) (one two : Unit {0}) (w : Written) → before ≡ [] → Adds {E = NoMem} (outdate (document_at session place).uri session) before (Ok one) first mid → Adds {E = NoMem} (take_away place mid) first (Ok two) bodies new → w.bodies ≡ bodies → w.exit ≡ None → Makes (close_at place session) (Ok w) new
+close_made session mid new place before first bodies one two w none refused gone wrote stays =
+    made_of (close_at place session) before bodies two w new none refl
+    (then_adds {E = NoMem} (outdate (document_at session place).uri session) (take_away place) before first bodies one (Ok two) mid new refl refused gone) wrote stays
 
 -- the document at a place, as it is read
 pub seen_at : (items documents : List Document) (place : ℕ) (document : Document) → items ≡ documents → place < length documents → document ≡ get_or items place document → document ≡ document_in documents place
@@ -143,9 +180,11 @@ idles_made views session e (Ok w) after short made = subst (λ s. IdlesLeft e se
 idles_made views session e (Err none) after short made = tt
 
 -- a document more
-pub add_made : (views : Views) (session mid new : Session) (place : ℕ) (document : Document) (r : Result Written NoMem) → place ≡ length session.documents → mid ≡ set_documents (session.documents ++ document ∷ []) session → Makes (settle views place mid) r new → Makes (add views document session) r new
-add_made views session mid new place document r last is made =
-    subst (λ n. Makes (settle views n (set_documents (session.documents ++ document ∷ []) session)) r new) last (subst (λ s. Makes (settle views place s) r new) is made)
+pub add_made : (views : Views) (session mid new : Session) (place : ℕ) (document : Document) (before bodies : List (List ℕ)) (done : Unit {0}) (w : Written) → place ≡ length session.documents → mid ≡ set_documents (session.documents ++ document ∷ []) session → before ≡ [] → Adds {E = NoMem} (settle views place mid) before (Ok done) bodies new → w.bodies ≡ bodies → w.exit ≡ None → Makes (add views document session) (Ok w) new
+add_made views session mid new place document before bodies done w last is none settled wrote stays =
+    made_of (add views document session) before bodies done w new none refl
+    (subst (λ n. Adds {E = NoMem} (settle views n (set_documents (session.documents ++ document ∷ []) session)) before (Ok done) bodies new) last
+    (subst (λ s. Adds {E = NoMem} (settle views place s) before (Ok done) bodies new) is settled)) wrote stays
 
 -- the document at a place and what is held are these now
 abbrev pub put_at : ℕ → Document → Held → Session → Session

@@ -1,26 +1,23 @@
 -- A document of which units are spent, by what its calls tell.
-use Rattle.std.proofs.Common.{◌≡◌, ℕ, ◌+◌, ◌-◌, ◌<◌, ◌≤◌, min, Bool, true, false, if◌then◌else◌, Result, Ok, Err, List, arith, refl, ap, subst, sym, ◌∙◌}
+use Rattle.std.proofs.Common.{◌≡◌, ℕ, ◌+◌, ◌-◌, ◌<◌, ◌≤◌, min, Bool, true, false, if◌then◌else◌, Ok, List, arith, refl, ap, subst, sym, ◌∙◌}
 use Rattle.std.specs.Prelude.{nat_le}
 use Rattle.std.proofs.lemmas.Bool.{leb-true, leb-false}
-use Rattle.base_core.specs.declared.limits.TheConstants.{TABLE_LIMIT, COST_LIMIT}
-use Rattle.base_core.specs.declared.memory.NoMem.{NoMem}
+use Rattle.base_core.specs.declared.limits.TheConstants.{TABLE_LIMIT}
 use Rattle.prover_iface.specs.Sentences.{Sentence}
 use Rattle.prover_iface.specs.Meanings.{Meanings}
-use Rattle.prover_iface.specs.Exec.{Works, Worked}
-use Rattle.memo_table.specs.Table.{Table, with_rows, with_kept}
-use Rattle.memo_table.specs.Entries.{entry_of, entered}
+use Rattle.memo_table.specs.Table.{Table, with_rows}
 use Rattle.memo_table.proofs.Plain.{plain_entered}
 use Rattle.doc_check.specs.declared.incremental.Advance.{Advance}
 use Rattle.doc_check.specs.declared.incremental.Advance.TheVariants as advance
 use Rattle.doc_check.specs.Check.{count, views, cost_at}
 use Rattle.doc_check.specs.Document.{Doc, done, all_done, next_key, next_of, state_here, taken}
-use Rattle.doc_check.specs.Stands.{Stands, IsKept, Runs, Advanced, cost_here}
+use Rattle.doc_check.specs.Stands.{IsKept, Runs, Advanced, cost_here}
 use Rattle.sched_core.specs.Session.{Document, Held, held_in, held_rows}
-use Rattle.sched_core.specs.Done.{Came, came_to, take_kept, finish, after_work, run_next, spend, spend_most, with_check}
-use Rattle.sched_core.specs.Coming.{Comes, Carries}
+use Rattle.sched_core.specs.Done.{Came, came_to, take_kept, finish, after_work, run_next, spend_most, with_check}
+use Rattle.sched_core.specs.Coming.{Carries}
 use Rattle.sched_core.specs.Work.{spent_on, ran_on}
 use Rattle.sched_core.proofs.Taken.{taken_text, taken_done, take_seen}
-use Rattle.sched_core.proofs.Carrying.{carries_none, carries_on, carries_stands}
+use Rattle.sched_core.proofs.Carrying.{carries_none, carries_on}
 use Rattle.sched_core.proofs.Units.{GoesOn, goes_on, stops_there, spent_ended, left_here, finish_more}
 
 -- what a call makes of a document that took what is held

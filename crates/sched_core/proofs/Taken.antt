@@ -1,5 +1,5 @@
 -- What is taken of a document leaves its text, takes no sentence back, and is told by what a table holds.
-use Rattle.std.proofs.Common.{◌≡◌, Result, Ok, Err, OnOk, ℕ, zero, suc, ◌-◌, ◌≤◌, Option, None, Some, List, [], ◌∷◌, length, length-append, arith, refl, ap, sym, ◌∙◌}
+use Rattle.std.proofs.Common.{◌≡◌, Result, Ok, Err, OnOk, ℕ, zero, suc, ◌-◌, ◌≤◌, Option, None, Some, List, [], ◌∷◌, length-append, arith, refl, ap, sym, ◌∙◌}
 use Rattle.memo_table.specs.declared.slots.Entry.{Entry}
 use Rattle.memo_table.specs.declared.table.Kept.{Kept}
 use Rattle.memo_table.specs.Entries.{number_of, touched, plain_entries}
@@ -7,8 +7,8 @@ use Rattle.memo_table.specs.Table.{Table, with_rows}
 use Rattle.memo_table.proofs.Plain.{plain_number, plain_touched}
 use Rattle.doc_check.specs.Check.{count}
 use Rattle.doc_check.specs.Document.{Doc, done, next_key, with_number, Took, took, taken, taken_by, taken_most}
-use Rattle.sched_core.specs.Session.{Document, Held, held_in}
-use Rattle.sched_core.specs.Done.{Came, came_to, take_kept, with_check}
+use Rattle.sched_core.specs.Session.{Document, held_in}
+use Rattle.sched_core.specs.Done.{came_to, take_kept, with_check}
 use Rattle.sched_core.specs.Coming.{Comes}
 
 module _ {M : Type 0} where

@@ -1,10 +1,10 @@
 -- What units finish of a document.
-use Rattle.std.proofs.Common.{◌≡◌, ℕ, zero, suc, ◌+◌, ◌-◌, ◌<◌, ◌≤◌, Bool, true, false, nat_le, if◌then◌else◌, List, length, length-append, ◌∷◌, [], arith, refl, ap, subst, sym, ◌∙◌}
+use Rattle.std.proofs.Common.{◌≡◌, ℕ, zero, suc, ◌+◌, ◌-◌, ◌<◌, ◌≤◌, Bool, true, false, nat_le, if◌then◌else◌, length-append, ◌∷◌, [], arith, refl, ap, ◌∙◌}
 use Rattle.std.proofs.lemmas.Bool.{le-leb, lt-leb, leb-false, leb-true}
 use Rattle.doc_check.specs.Check.{count}
 use Rattle.doc_check.specs.Document.{Doc, done, all_done}
 use Rattle.sched_core.specs.Session.{Held}
-use Rattle.sched_core.specs.Done.{Came, came_to, take_kept, finish, after_work, run_taken, run_next, spend_taken, spend_most, spend}
+use Rattle.sched_core.specs.Done.{Came, take_kept, finish, after_work, run_next, spend_taken, spend_most, spend}
 use Rattle.sched_core.proofs.Taken.{taken_text, taken_done}
 
 -- ---- one turn

@@ -8,19 +8,8 @@ use Rattle.base_core.specs.declared.places.Position.{Position}
 use Rattle.utf16_doc.specs.declared.encoding.Encoding.{Encoding}
 use Rattle.utf16_doc.specs.declared.encoding.Encoding.TheVariants.{Utf8, Utf16}
 use Rattle.doc_check.specs.declared.diagnostics.AbsDiag.{AbsDiag}
+use Rattle.goals_query.specs.Places.{range_data, document_data}
 use Rattle.lsp_types.specs.Bodies.{note_body}
-
--- a position
-abbrev pub position_data : Position → Data
-position_data at = object (member (codes "character") (number (unsigned at.character)) (member (codes "line") (number (unsigned at.line)) no_members))
-
--- the range between two offsets
-abbrev pub range_data : (ℕ → Position) → ℕ → ℕ → Data
-range_data at from to = object (member (codes "end") (position_data (at to)) (member (codes "start") (position_data (at from)) no_members))
-
--- a document's name and version
-abbrev pub document_data : List ℕ → ℤ → Data
-document_data uri version = object (member (codes "uri") (string uri) (member (codes "version") (number (of_integer version)) no_members))
 
 -- what is still to be checked of a document: these ranges
 abbrev pub progress_data : List Data → List ℕ → ℤ → Data

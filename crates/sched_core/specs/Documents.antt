@@ -2,27 +2,22 @@
 use Rattle.std.specs.Prelude.{◌≡◌, ℕ, ℤ, nat_le, nat_lt, int_le, Bool, if◌then◌else◌, Option, None, Some, is_some, Result, Ok, Err, List, [], ◌∷◌, ◌++◌, codes, length, remove}
 use Rattle.base_core.specs.declared.limits.TheConstants.{TEXT_LIMIT, DOCUMENT_LIMIT}
 use Rattle.base_core.specs.declared.places.Change.{Change}
-use Rattle.base_core.specs.declared.places.Position.{Position}
 use Rattle.utf16_doc.specs.declared.encoding.Encoding.{Encoding}
 use Rattle.utf16_doc.specs.declared.stops.DocStop.{DocStop}
 use Rattle.utf16_doc.specs.declared.stops.DocStop.TheVariants.{RangeReversed, TooLong, NoMem}
-use Rattle.utf16_doc.specs.Positions.{position_at}
 use Rattle.utf16_doc.specs.Edits.{Edited, changes_in}
 use Rattle.doc_check.specs.Check.{Views}
 use Rattle.doc_check.specs.Document.{all_done, next_span, changed}
 use Rattle.sched_core.specs.declared.open_document.NewText.{NewText}
 use Rattle.sched_core.specs.Step.{Step, stays, says, and_then}
-use Rattle.sched_core.specs.Session.{Document, Session, unchecked, document_at, place_of, set_documents, update}
+use Rattle.sched_core.specs.Session.{Document, Session, unchecked, document_at, place_of, positions, set_documents, update}
 use Rattle.sched_core.specs.Done.{take_kept, came}
+use Rattle.sched_core.specs.Waiting.{outdate}
 use Rattle.sched_core.specs.Bodies.{progress_body, ended_body, diags_body, log_body}
 
 -- a notification is refused, and the client's log says why
 abbrev pub refuse : List ℕ → Session → Step Session
 refuse why session = says (log_body why ∷ []) session
-
--- the positions in a document's text
-abbrev pub positions : Document → ℕ → Position
-positions document = position_at document.encoding document.check.text
 
 -- the diagnostics of its text
 abbrev pub diags_of : Views → Document → List ℕ
@@ -99,9 +94,13 @@ renewed version text document = record document { version = version; check = cha
 abbrev pub restarted : ℤ → Encoding → List ℕ → Document → Document
 restarted version encoding text document = record document { version = version; encoding = encoding; check = changed text document.check }
 
--- a new version of the document at a place
+-- a new version of the document at a place, in which the requests about it are refused
+abbrev pub begin_again : Views → ℕ → ℤ → List ℕ → Session → Step Session
+begin_again views place version text session = and_then (stays (update place (renewed version text) session)) (settle views place)
+
 abbrev pub renew : Views → ℕ → ℤ → List ℕ → Session → Step Session
-renew views place version text session = and_then (stays (update place (renewed version text) session)) (settle views place)
+renew views place version text session =
+    and_then (outdate (document_at session place).uri session) (begin_again views place version text)
 
 -- a new version with this text, or a refusal that changes nothing; want of memory is none, so it never comes
 abbrev pub renew_by : Views → ℕ → ℤ → Result (List ℕ) DocStop → Session → Step Session
@@ -119,10 +118,14 @@ change_at views version changes place session =
 abbrev pub did_change : Views → List ℕ → ℤ → List Change → Session → Step Session
 did_change views uri version changes session = at_known (place_of uri session.documents) (change_at views version changes) session
 
--- the document at a place is closed: its diagnostics are taken back
-abbrev pub close_at : ℕ → Session → Step Session
-close_at place session =
+-- the document at a place is taken away: its diagnostics are taken back
+abbrev pub take_away : ℕ → Session → Step Session
+take_away place session =
     and_then (stays (set_documents (remove session.documents place) session)) (says (no_diags (document_at session place) ∷ []))
+
+-- it is closed, and the requests about it are refused
+abbrev pub close_at : ℕ → Session → Step Session
+close_at place session = and_then (outdate (document_at session place).uri session) (take_away place)
 
 abbrev pub did_close : List ℕ → Session → Step Session
 did_close uri session = at_known (place_of uri session.documents) close_at session

@@ -1,5 +1,5 @@
 -- Which sentences of a document are finished: those that are held are taken, others are run and then held.
-use Rattle.std.specs.Prelude.{ℕ, zero, suc, ◌+◌, ◌-◌, nat_le, Bool, true, false, if◌then◌else◌, List, slice_set}
+use Rattle.std.specs.Prelude.{ℕ, zero, suc, ◌+◌, ◌-◌, nat_le, if◌then◌else◌, slice_set}
 use Rattle.base_core.specs.declared.limits.TheConstants.{TABLE_LIMIT}
 use Rattle.memo_table.specs.Entries.{entry_of, entered}
 use Rattle.doc_check.specs.Check.{count}

@@ -1,9 +1,11 @@
 pub mod Step
 pub mod Session
+pub mod Waiting
 pub mod Bodies
 pub mod Done
 pub mod Coming
 pub mod Documents
+pub mod Trim
 pub mod Work
 pub mod Messages
 pub mod Plain

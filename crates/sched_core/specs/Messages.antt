@@ -29,6 +29,8 @@ use Rattle.sched_core.specs.Step.{Step, stays, says, leaves, and_then}
 use Rattle.sched_core.specs.Session.{Session, set_phase}
 use Rattle.sched_core.specs.Bodies.{initialize_result}
 use Rattle.sched_core.specs.Documents.{refuse, did_open, did_change, did_close}
+use Rattle.sched_core.specs.Waiting.{ask_outline, ask_goals, cancel, cancel_all}
+use Rattle.sched_core.specs.Trim.{trim}
 use Rattle.sched_core.specs.Work.{grant}
 
 -- one row of the table
@@ -54,26 +56,26 @@ set_running encoding session = record session { phase = Running; encoding = enco
 abbrev pub initialize : Id → Encoding → Session → Step Session
 initialize id encoding session = and_then (stays (set_running encoding session)) (says (result_body id (initialize_result encoding) ∷ []))
 
--- it is shut down
+-- it is shut down: the requests that wait are refused
 abbrev pub shut_down : Id → Session → Step Session
-shut_down id session = and_then (stays (set_phase ShutDown session)) (says (result_body id null ∷ []))
+shut_down id session = and_then (cancel_all session) (λ s. says (result_body id null ∷ []) (set_phase ShutDown s))
 
 -- a request before `initialize`
 abbrev pub request_fresh : Id → Call → Session → Step Session
 request_fresh id (Initialize utf8) session = initialize id (encoding_of utf8) session
 request_fresh id call session = refuse_request error.ServerNotInitialized id session
 
--- a request between `initialize` and `shutdown`: `shutdown` is obeyed
-abbrev pub request_running : Id → Call → Session → Step Session
-request_running id (Initialize utf8) session = refuse_request error.InvalidRequest id session
-request_running id Shutdown session = shut_down id session
-request_running id (Symbols uri) session = refuse_request error.MethodNotFound id session
-request_running id (Goals uri position after) session = refuse_request error.MethodNotFound id session
+-- a request between `initialize` and `shutdown`
+abbrev pub request_running : Views → Id → Call → Session → Step Session
+request_running views id (Initialize utf8) session = refuse_request error.InvalidRequest id session
+request_running views id Shutdown session = shut_down id session
+request_running views id (Symbols uri) session = ask_outline views id uri session
+request_running views id (Goals uri position after) session = ask_goals views id uri position after session
 
 -- a request
-abbrev pub request : Id → Call → Session → Step Session
-request id call session =
-    by_phase session.phase (request_fresh id call session) (request_running id call session) (refuse_request error.InvalidRequest id session)
+abbrev pub request : Views → Id → Call → Session → Step Session
+request views id call session =
+    by_phase session.phase (request_fresh id call session) (request_running views id call session) (refuse_request error.InvalidRequest id session)
 
 -- a notification where `exit` alone is heard
 abbrev pub notify_exit : Exit → Note → Session → Step Session
@@ -84,17 +86,16 @@ notify_exit exit _ session = stays session
 abbrev pub notify_grant : Views → List ℕ → ℕ → Session → Step Session
 notify_grant views uri units session = if session.paced then grant views uri units session else stays session
 
--- a notification between `initialize` and `shutdown`; no request waits, so that there is nothing to cancel, and trimming
--- is not built
+-- a notification between `initialize` and `shutdown`
 abbrev pub notify_running : Views → Note → Session → Step Session
 notify_running views note.Initialized session = stays session
 notify_running views note.Exit session = leaves Early session
-notify_running views (note.Cancel id) session = stays session
+notify_running views (note.Cancel id) session = cancel id session
 notify_running views (note.DidOpen uri version text) session = did_open views uri version text session
 notify_running views (note.DidChange uri version changes) session = did_change views uri version changes session
 notify_running views (note.DidClose uri) session = did_close uri session
 notify_running views (note.Grant uri units) session = notify_grant views uri units session
-notify_running views note.Trim session = stays session
+notify_running views note.Trim session = stays (trim session)
 notify_running views note.Other session = stays session
 notify_running views note.BadNote session = refuse (codes "invalid params") session
 
@@ -107,10 +108,10 @@ notify views heard session =
 abbrev pub unknown_in : Phase → ErrorCode
 unknown_in phase = by_phase phase error.ServerNotInitialized error.MethodNotFound error.InvalidRequest
 
--- the error of a request whose members are bad: those of `initialize` are looked at where it is heard
+-- the error of a request whose members are bad: they are looked at where it is heard
 abbrev pub bad_params_in : Bool → Phase → ErrorCode
 bad_params_in true phase = by_phase phase error.InvalidParams error.InvalidRequest error.InvalidRequest
-bad_params_in false phase = unknown_in phase
+bad_params_in false phase = by_phase phase error.ServerNotInitialized error.InvalidParams error.InvalidRequest
 
 -- a body that is no message that can be obeyed; want of memory is no fault of a body, so it never comes
 abbrev pub refuse_body : DecodeFault → Session → Step Session
@@ -122,7 +123,7 @@ refuse_body fault.NoMem session = stays session
 
 -- the step of a message
 abbrev pub hear : Views → Result Incoming DecodeFault → Session → Step Session
-hear views (Ok (incoming.Request id call)) session = request id call session
+hear views (Ok (incoming.Request id call)) session = request views id call session
 hear views (Ok (incoming.Note heard)) session = notify views heard session
 hear views (Ok incoming.Reply) session = stays session
 hear views (Err fault) session = refuse_body fault session

@@ -1,8 +1,6 @@
 -- The plain session: what it says of a text is what checking the text from its beginning says.
-use Rattle.std.specs.Prelude.{◌≡◌, ℕ, ◌+◌, ◌<◌, ◌≤◌, false, Result}
+use Rattle.std.specs.Prelude.{◌≡◌, ◌+◌, ◌<◌, ◌≤◌, false}
 use Rattle.base_core.specs.declared.limits.TheConstants.{TEXT_LIMIT}
-use Rattle.lsp_types.specs.declared.messages.Incoming.{Incoming}
-use Rattle.lsp_types.specs.declared.messages.DecodeFault.{DecodeFault}
 use Rattle.doc_check.specs.Check.{Views}
 use Rattle.sched_core.specs.declared.events.Event.{Event}
 use Rattle.sched_core.specs.declared.events.Event.TheVariants as event

@@ -1,9 +1,11 @@
 -- What a plain session keeps: of each document the text and numbers, and which sentences were finished, as texts.
-use Rattle.std.specs.Prelude.{◌≡◌, ℕ, ◌-◌, ◌≤◌, pos, ℤ, Bool, Option, List, [], length, position, not, slice_index_or, slice_set, sum_by, All}
+use Rattle.std.specs.Prelude.{ℕ, ◌-◌, ◌≤◌, pos, ℤ, Bool, Option, List, [], length, position, not, slice_index_or, slice_set, sum_by, All}
 use Rattle.std.specs.Str.{bytes_eq}
 use Rattle.base_core.specs.declared.limits.TheConstants.{TEXT_LIMIT}
+use Rattle.base_core.specs.declared.places.Position.{Position}
 use Rattle.utf16_doc.specs.declared.encoding.Encoding.{Encoding}
 use Rattle.utf16_doc.specs.declared.encoding.Encoding.TheVariants.{Utf16}
+use Rattle.utf16_doc.specs.Positions.{position_at}
 use Rattle.prover_iface.specs.Sentences.{Sentence}
 use Rattle.prover_iface.specs.Meanings.{Meanings}
 use Rattle.memo_table.specs.declared.slots.Entry.{Entry}
@@ -15,6 +17,7 @@ use Rattle.doc_check.specs.Document.{Doc, doc, done, all_done}
 use Rattle.doc_check.specs.Stands.{Follows}
 use Rattle.sched_core.specs.declared.phase.Phase.{Phase}
 use Rattle.sched_core.specs.declared.phase.Phase.TheVariants.{Fresh}
+use Rattle.sched_core.specs.declared.waiting.Waiting.{Waiting}
 
 -- an open document: its name, the version that was last accepted, what its characters are counted in, and the text that
 -- was last accepted with the number of each of its finished sentences
@@ -41,18 +44,19 @@ held_rows given rows = record { given = given; rows = rows }
 abbrev pub held_in : {S : Type 0} → Table S → Held
 held_in t = held_rows t.given (plain_entries t.rows)
 
--- whether it is paced, its phase, what characters are counted in, the open documents in the order of their opening, and
--- the finished sentences that are held
+-- whether it is paced, its phase, what characters are counted in, the open documents in the order of their opening, the
+-- requests that wait in the order of their arrival, and the finished sentences that are held
 pub record Session : Type 0 where
   pub paced : Bool
   pub phase : Phase
   pub encoding : Encoding
   pub documents : List Document
+  pub waiting : List Waiting
   pub held : Held
 
 -- where a session begins: UTF-16, until the client asks for another
 abbrev pub fresh : Bool → Session
-fresh paced = record { paced = paced; phase = Fresh; encoding = Utf16; documents = []; held = held_rows 0 [] }
+fresh paced = record { paced = paced; phase = Fresh; encoding = Utf16; documents = []; waiting = []; held = held_rows 0 [] }
 
 -- the document at a place in the order of opening
 abbrev pub document_in : List Document → ℕ → Document
@@ -65,9 +69,17 @@ document_at session place = document_in session.documents place
 abbrev pub set_documents : List Document → Session → Session
 set_documents documents session = record session { documents = documents }
 
+-- these requests wait now
+abbrev pub set_waiting : List Waiting → Session → Session
+set_waiting waiting session = record session { waiting = waiting }
+
 -- the document at a place is changed so
 abbrev pub update : ℕ → (Document → Document) → Session → Session
 update place change session = set_documents (slice_set session.documents place (change (document_at session place))) session
+
+-- the positions in a document's text
+abbrev pub positions : Document → ℕ → Position
+positions document = position_at document.encoding document.check.text
 
 -- the session is in another phase
 abbrev pub set_phase : Phase → Session → Session

@@ -39,6 +39,11 @@ unless_exit (Some exit) first second = first
 abbrev pub and_then : {S : Type 0} → Step S → (S → Step S) → Step S
 and_then first next = unless_exit first.exit first (next first.state)
 
+-- a call makes this step, in which the session goes on, and adds its bodies to those that are due, unless memory runs out
+abbrev pub Adds : {S E : Type 0} → Step S → List (List ℕ) → Result (Unit {0}) E → List (List ℕ) → S → Type 0
+Adds step before (Ok done) now state = (now ≡ before ++ step.bodies) × (state ≡ step.state)
+Adds step before (Err none) now state = Unit {0}
+
 -- a call makes this step, unless memory runs out
 abbrev pub Makes : {S : Type 0} → Step S → Result Written NoMem → S → Type 0
 Makes step (Ok written) state = (written.bodies ≡ step.bodies) × (written.exit ≡ step.exit) × (state ≡ step.state)

@@ -7,6 +7,7 @@ use Rattle.sched_core.specs.declared.phase.Phase.TheVariants.{Fresh, Running, Sh
 use Rattle.sched_core.specs.Step.{Step, stays, says, works, and_then}
 use Rattle.sched_core.specs.Session.{Document, Session, Held, document_at, place_of, first_unended}
 use Rattle.sched_core.specs.Done.{Came, came, spend, run_next}
+use Rattle.sched_core.specs.Waiting.{answer_ready}
 use Rattle.sched_core.specs.Documents.{end_pair, progress_from, at_known}
 
 -- a document with these units
@@ -33,10 +34,10 @@ granted views units place session =
     let spent = spent_on views units old session.held in
     and_then (works spent.work (came place spent session)) (λ s. says (progress_since views (done old.check) (document_at s place)) s)
 
--- nothing is done for one that is ended
+-- nothing is done for one that is ended; else the requests about it that are ready are answered then
 abbrev pub grant_at : Views → ℕ → ℕ → Session → Step Session
 grant_at views units place session =
-    if all_done (document_at session place).check then stays session else granted views units place session
+    if all_done (document_at session place).check then stays session else and_then (granted views units place session) (answer_ready views place)
 
 abbrev pub grant : Views → List ℕ → ℕ → Session → Step Session
 grant views uri units session = at_known (place_of uri session.documents) (grant_at views units) session
@@ -56,10 +57,14 @@ abbrev pub waits : Session → Bool
 waits session = session.paced || all_ended session
 
 -- the document at a place, which is not ended, takes the sentences that are held; then the next one is finished
-abbrev pub run_at : Views → ℕ → Session → Step Session
-run_at views place session =
+abbrev pub run_on : Views → ℕ → Session → Step Session
+run_on views place session =
     let ran = ran_on views (document_at session place) session.held in
     and_then (works ran.work (came place ran session)) (λ s. says (pair_at_end views (document_at s place)) s)
+
+-- .. and the requests about it that are ready are answered
+abbrev pub run_at : Views → ℕ → Session → Step Session
+run_at views place session = and_then (run_on views place session) (answer_ready views place)
 
 -- that of the document at this place, if there is one
 abbrev pub run_first : Views → Option ℕ → Session → Step Session

@@ -5,39 +5,18 @@ ghost use Rattle.serde_json.specs.View.{view};
 ghost use Rattle.doc_check.specs.Check.{IsPlaced};
 ghost use Rattle.lsp_types.specs.Bodies.{result_body};
 ghost use Rattle.utf16_doc.specs.Indexed.{position_in};
-ghost use Rattle.sched_core.specs.Bodies.{position_data, range_data, document_data, progress_data, processing_data};
+ghost use Rattle.goals_query.specs.Places.{range_data};
+ghost use Rattle.sched_core.specs.Bodies.{progress_data, processing_data};
 ghost use Rattle.sched_core.specs.Bodies.{progress_body, ended_body, diag_data, diags_data, diags_body, log_data, log_body};
 ghost use Rattle.sched_core.specs.Bodies.{encoding_name, sync_data, capabilities_data, server_data, initialize_result};
 
-use base_core::{Bytes, NoMem, Position};
+use base_core::{Bytes, NoMem};
 use doc_check::AbsDiag;
+use goals_query::{document_value, range_value};
 use lsp_types::{Id, encode_note, encode_result};
 use serde_json::{Map, Value, json, put};
 use std::alloc::Global;
 use utf16_doc::{Doc, Encoding};
-
-fn position_value(alloc: Global, at: Position) -> Result<Value, NoMem>
-    ensures { IfOk result (λ v. view v ≡ position_data at) }
-{
-    Ok(json!(in alloc; {"character": at.character, "line": at.line})?)
-}
-
-/// The range between two offsets of a text.
-fn range_value(alloc: Global, doc: &Doc, from: usize, to: usize) -> Result<Value, NoMem>
-    requires from { from ≤ length doc.now.text }
-    requires to { to ≤ length doc.now.text }
-    ensures { IfOk result (λ v. view v ≡ range_data (position_in doc.now) from to) }
-{
-    let start = position_value(alloc, doc.position_of(from))?;
-    let end = position_value(alloc, doc.position_of(to))?;
-    Ok(json!(in alloc; {"end": end, "start": start})?)
-}
-
-fn document_value(alloc: Global, uri: &str, version: i32) -> Result<Value, NoMem>
-    ensures { IfOk result (λ v. view v ≡ document_data uri.now version) }
-{
-    Ok(json!(in alloc; {"uri": uri, "version": version})?)
-}
 
 /// The parameters of progress where these ranges are left.
 fn progress_value(

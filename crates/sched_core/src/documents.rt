@@ -2,15 +2,15 @@
 ghost use Rattle.std.specs.Prelude.{◌≡◌, ◌≤◌, ◌<◌, [], length, take};
 ghost use Rattle.base_core.specs.declared.limits.TheConstants.{TEXT_LIMIT};
 ghost use Rattle.doc_check.specs.Check.{views};
-ghost use Rattle.sched_core.specs.Step.{Makes};
+ghost use Rattle.sched_core.specs.Step.{Adds, Makes};
 ghost use Rattle.sched_core.specs.Session.{document_at, unchecked};
-ghost use Rattle.sched_core.specs.Documents.{settle, did_open, add, did_change, change_at, renew, did_close, close_at};
+ghost use Rattle.sched_core.specs.Documents.{settle, did_open, add, did_change, change_at, begin_again, renew, did_close, take_away, close_at};
 
-use crate::Written;
 use crate::lookup::place_of;
 use crate::open_document::{NewText, OpenDocument};
-use crate::replies::{answer, refuse, written};
+use crate::replies::{refuse, written};
 use crate::sched::Sched;
+use crate::{BytesList, Written};
 use base_core::{ChangeList, DOCUMENT_LIMIT, NoMem, Text};
 use prover_iface::Prover;
 use std::alloc::Global;
@@ -18,12 +18,12 @@ use utf16_doc::{Doc, DocStop};
 
 impl<P: Prover> Sched<P> {
     /// The document at a place takes the sentences that are kept, and says how far it is.
-    fn settle(&mut self, alloc: Global, place: usize) -> Result<Written, NoMem>
+    fn settle(&mut self, alloc: Global, place: usize, bodies: &mut BytesList) -> Result<(), NoMem>
         requires { place < length self.old.documents }
-        ensures { Makes (settle (views P.means) place self.old) result self.new }
+        ensures { Adds (settle (views P.means) place self.old) bodies.old result bodies.new self.new }
     {
         self.take_kept_at(alloc, place)?;
-        Ok(written(self.status_at(alloc, place)?))
+        self.add_status_at(alloc, place, bodies)
     }
 
     /// A document more, which takes the sentences that are kept.
@@ -34,7 +34,9 @@ impl<P: Prover> Sched<P> {
     {
         let place = self.documents().len();
         self.keep(document)?;
-        self.settle(alloc, place)
+        let mut bodies = BytesList::new(alloc);
+        self.settle(alloc, place, &mut bodies)?;
+        Ok(written(bodies))
     }
 
     /// A document of this text is opened.
@@ -78,6 +80,26 @@ impl<P: Prover> Sched<P> {
     }
 
     /// A new version of the document at a place, which takes the sentences that are kept.
+    fn begin_again(
+        &mut self,
+        alloc: Global,
+        place: usize,
+        version: i32,
+        new: NewText,
+        bodies: &mut BytesList,
+    ) -> Result<(), NoMem>
+        requires within { place < length self.old.documents }
+        requires same { new.doc.encoding ≡ (document_at self.old place).encoding }
+        requires alike { let old = document_at self.old place in
+            take new.first_changed old.check.text ≡ take new.first_changed new.doc.text }
+        ensures { let begun = begin_again (views P.means) place version new.doc.text self.old in
+            Adds begun bodies.old result bodies.new self.new }
+    {
+        self.restart(alloc, place, version, new)?;
+        self.settle(alloc, place, bodies)
+    }
+
+    /// The same, and the requests about it are refused.
     fn renew(
         &mut self,
         alloc: Global,
@@ -91,8 +113,10 @@ impl<P: Prover> Sched<P> {
             take new.first_changed old.check.text ≡ take new.first_changed new.doc.text }
         ensures { Makes (renew (views P.means) place version new.doc.text self.old) result self.new }
     {
-        self.restart(alloc, place, version, new)?;
-        self.settle(alloc, place)
+        let mut bodies = BytesList::new(alloc);
+        self.outdate_at(alloc, place, &mut bodies)?;
+        self.begin_again(alloc, place, version, new, &mut bodies)?;
+        Ok(written(bodies))
     }
 
     /// The document at a place is changed to a version.
@@ -133,14 +157,30 @@ impl<P: Prover> Sched<P> {
         }
     }
 
+    /// The document at a place is taken away.
+    fn take_away(
+        &mut self,
+        alloc: Global,
+        place: usize,
+        bodies: &mut BytesList,
+    ) -> Result<(), NoMem>
+        requires { place < length self.old.documents }
+        ensures { Adds (take_away place self.old) bodies.old result bodies.new self.new }
+    {
+        bodies.push(self.document(place).no_diags(alloc)?)?;
+        self.forget(place);
+        Ok(())
+    }
+
     /// The document at a place is closed.
     fn close_at(&mut self, alloc: Global, place: usize) -> Result<Written, NoMem>
         requires { place < length self.old.documents }
         ensures { Makes (close_at place self.old) result self.new }
     {
-        let body = self.document(place).no_diags(alloc)?;
-        self.forget(place);
-        answer(alloc, body)
+        let mut bodies = BytesList::new(alloc);
+        self.outdate_at(alloc, place, &mut bodies)?;
+        self.take_away(alloc, place, &mut bodies)?;
+        Ok(written(bodies))
     }
 
     /// A document is closed.

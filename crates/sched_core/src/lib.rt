@@ -11,8 +11,10 @@ mod messages;
 mod open_document;
 mod phase;
 mod replies;
+mod requests;
 mod sched;
 mod steps;
+mod waiting;
 mod work;
 
 pub use events::{BytesList, Event, Exit, Written};

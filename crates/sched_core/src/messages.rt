@@ -2,15 +2,16 @@
 ghost use Rattle.std.specs.Prelude.{◌≡◌, ◌+◌, ◌≤◌, Ok, if◌then◌else◌};
 ghost use Rattle.prover_iface.specs.Exec.{Worked};
 ghost use Rattle.doc_check.specs.Check.{views};
-ghost use Rattle.sched_core.specs.Step.{Makes};
+ghost use Rattle.sched_core.specs.Step.{Makes, stays};
+ghost use Rattle.sched_core.specs.Trim.{trim};
 ghost use Rattle.sched_core.specs.Messages.{initialize, shut_down, request, request_fresh, request_running, notify, notify_exit, notify_grant, notify_running};
 ghost use Rattle.sched_core.specs.Messages.{unknown_in, bad_params_in, encoding_of, refuse_body, hear};
 
 use crate::bodies::initialize_body;
 use crate::phase::Phase;
-use crate::replies::{answer, answer_error, leaves, refuse, silent};
+use crate::replies::{answer, answer_error, leaves, refuse, silent, written};
 use crate::sched::Sched;
-use crate::{Exit, Written};
+use crate::{BytesList, Exit, Written};
 use base_core::{NoMem, Steps};
 use lsp_types::{Call, DecodeFault, ErrorCode, Id, Incoming, Note, encode_result};
 use prover_iface::Prover;
@@ -34,12 +35,17 @@ fn unknown_in(phase: Phase) -> ErrorCode
 fn bad_params_in(initialize: bool, phase: Phase) -> ErrorCode
     ensures { result ≡ bad_params_in initialize phase }
 {
-    if !initialize {
-        return unknown_in(phase);
-    }
     match phase {
-        Phase::Fresh => ErrorCode::InvalidParams,
-        Phase::Running => ErrorCode::InvalidRequest,
+        Phase::Fresh => if initialize {
+            ErrorCode::InvalidParams
+        } else {
+            ErrorCode::ServerNotInitialized
+        },
+        Phase::Running => if initialize {
+            ErrorCode::InvalidRequest
+        } else {
+            ErrorCode::InvalidParams
+        },
         Phase::ShutDown => ErrorCode::InvalidRequest,
     }
 }
@@ -64,11 +70,15 @@ impl<P: Prover> Sched<P> {
         answer(alloc, initialize_body(alloc, id, encoding)?)
     }
 
+    /// The session is shut down.
     fn shut_down(&mut self, alloc: Global, id: &Id) -> Result<Written, NoMem>
         ensures { Makes (shut_down id.now self.old) result self.new }
     {
+        let mut bodies = BytesList::new(alloc);
+        self.cancel_all(alloc, &mut bodies)?;
         self.set_phase(Phase::ShutDown);
-        answer(alloc, encode_result(alloc, id, Value::Null)?)
+        bodies.push(encode_result(alloc, id, Value::Null)?)?;
+        Ok(written(bodies))
     }
 
     fn request_fresh(&mut self, alloc: Global, id: &Id, call: &Call) -> Result<Written, NoMem>
@@ -82,26 +92,34 @@ impl<P: Prover> Sched<P> {
         }
     }
 
-    fn request_running(&mut self, alloc: Global, id: &Id, call: &Call) -> Result<Written, NoMem>
-        ensures { Makes (request_running id.now call.now self.old) result self.new }
+    fn request_running(&mut self, alloc: Global, id: Id, call: Call) -> Result<Written, NoMem>
+        ensures { Makes (request_running (views P.means) id call self.old) result self.new }
     {
         match call {
-            Call::Initialize { .. } => answer_error(alloc, id, ErrorCode::InvalidRequest),
-            Call::Shutdown => self.shut_down(alloc, id),
-            Call::Symbols { .. } => answer_error(alloc, id, ErrorCode::MethodNotFound),
-            Call::Goals { .. } => answer_error(alloc, id, ErrorCode::MethodNotFound),
+            Call::Initialize { .. } => answer_error(alloc, &id, ErrorCode::InvalidRequest),
+            Call::Shutdown => self.shut_down(alloc, &id),
+            Call::Symbols { uri } => self.ask_outline(alloc, id, uri),
+            Call::Goals { uri, at, after } => self.ask_goals(alloc, id, uri, at, after),
         }
     }
 
     /// A request.
-    fn request(&mut self, alloc: Global, id: &Id, call: &Call) -> Result<Written, NoMem>
-        ensures { Makes (request id.now call.now self.old) result self.new }
+    fn request(&mut self, alloc: Global, id: Id, call: Call) -> Result<Written, NoMem>
+        ensures { Makes (request (views P.means) id call self.old) result self.new }
     {
         match self.phase() {
-            Phase::Fresh => self.request_fresh(alloc, id, call),
+            Phase::Fresh => self.request_fresh(alloc, &id, &call),
             Phase::Running => self.request_running(alloc, id, call),
-            Phase::ShutDown => answer_error(alloc, id, ErrorCode::InvalidRequest),
+            Phase::ShutDown => answer_error(alloc, &id, ErrorCode::InvalidRequest),
         }
+    }
+
+    /// Finished sentences that no open document uses are forgotten.
+    fn forget_unused(&mut self, alloc: Global) -> Result<Written, NoMem>
+        ensures { Makes (stays (trim self.old)) result self.new }
+    {
+        self.trim(alloc)?;
+        Ok(silent(alloc))
     }
 
     /// Units, which are for a paced session alone.
@@ -145,7 +163,7 @@ impl<P: Prover> Sched<P> {
         match note {
             Note::Initialized => Ok(silent(alloc)),
             Note::Exit => Ok(leaves(alloc, Exit::Early)),
-            Note::Cancel { .. } => Ok(silent(alloc)),
+            Note::Cancel { id } => self.cancel(alloc, &id),
             Note::DidOpen { uri, version, text } => self.open(alloc, uri, version, text),
             Note::DidChange {
                 uri,
@@ -154,7 +172,7 @@ impl<P: Prover> Sched<P> {
             } => self.change(alloc, uri.as_str(), version, &changes),
             Note::DidClose { uri } => self.close(alloc, uri.as_str()),
             Note::Grant { uri, units } => self.notify_grant(alloc, uri.as_str(), units, steps),
-            Note::Trim => Ok(silent(alloc)),
+            Note::Trim => self.forget_unused(alloc),
             Note::Other => Ok(silent(alloc)),
             Note::BadNote => refuse(alloc, "invalid params"),
         }
@@ -203,7 +221,7 @@ impl<P: Prover> Sched<P> {
         ensures work { Worked (hear (views P.means) message self.old).work steps.old steps.new result }
     {
         match message {
-            Ok(Incoming::Request { id, call }) => self.request(alloc, &id, &call),
+            Ok(Incoming::Request { id, call }) => self.request(alloc, id, call),
             Ok(Incoming::Note(note)) => self.notify(alloc, note, steps),
             Ok(Incoming::Reply) => Ok(silent(alloc)),
             Err(fault) => self.refuse_body(alloc, &fault),

@@ -1,12 +1,14 @@
 //! An open document, with what is kept of its finished sentences.
-ghost use Rattle.std.specs.Prelude.{◌≡◌, ◌≤◌, [], true, false, take, length, IfOk, OnOk, OnErr};
+ghost use Rattle.std.specs.Prelude.{◌≡◌, ◌≤◌, ◌++◌, ◌∷◌, [], true, false, not, take, length, map, filter, if◌then◌else◌, IfOk, OnOk, OnErr};
 ghost use Rattle.std.specs.Str.{bytes_eq};
 ghost use Rattle.prover_iface.specs.Exec.{Works, Worked};
 ghost use Rattle.doc_check.specs.Check.{views};
 ghost use Rattle.doc_check.specs.Document.{doc, done, all_done, taken};
 ghost use Rattle.doc_check.specs.Stands.{Stands, Advanced, cost_here};
 ghost use Rattle.sched_core.specs.Bodies.{ended_body as ended_bytes};
+ghost use Rattle.serde_json.specs.View.{view};
 ghost use Rattle.sched_core.specs.Session.{held_in};
+ghost use Rattle.sched_core.specs.Waiting.{answer, can_tell, is_ready, is_ready_for, told_of, wanted_at};
 ghost use Rattle.sched_core.specs.Documents.{text_behind, Edits, restarted, progress_from, diags_of, no_diags, status_bodies, end_pair};
 ghost use Rattle.sched_core.specs.Done.{take_kept, with_check};
 ghost use Rattle.sched_core.specs.Coming.{Comes, Carries};
@@ -15,11 +17,15 @@ ghost use Rattle.sched_core.specs.Work.{progress_since, pair_at_end, spent_on, r
 use crate::BytesList;
 use crate::bodies::{diags_body, ended_body, progress_body};
 use crate::replies::one_body;
-use base_core::{Bytes, COST_LIMIT, ChangeList, NoMem, Steps, Text};
+use crate::waiting::{Question, Waiting, is_about};
+use base_core::{Bytes, COST_LIMIT, ChangeList, NoMem, Position, Steps, Text};
 use doc_check::Advance;
 use doc_check::document::DocCheck;
+use goals_query::{goals_value, symbols_value};
+use lsp_types::encode_result;
 use memo_table::MemoTable;
 use prover_iface::Prover;
+use serde_json::Value;
 use std::alloc::Global;
 use std::marker::Model;
 use std::sync::ledger::Ledger;
@@ -77,6 +83,12 @@ impl<P: Prover> OpenDocument<P> {
         ensures { result ≡ self.now.version }
     {
         self.version
+    }
+
+    pub(crate) fn uri(&self) -> &Text
+        ensures { result.now ≡ self.now.uri }
+    {
+        &self.uri
     }
 
     /// Whether all sentences are finished.
@@ -235,25 +247,155 @@ impl<P: Prover> OpenDocument<P> {
         }
     }
 
-    /// The end pair: nothing is left to be checked, and the diagnostics.
+    /// Adds the end pair: nothing is left to be checked, and the diagnostics.
+    fn add_end_pair(&self, alloc: Global, prover: &P, bodies: &mut BytesList) -> Result<(), NoMem>
+        requires { all_done self.now.check ≡ true }
+        ensures { OnOk result (bodies.new ≡ bodies.old ++ end_pair (views P.means) self.now) }
+    {
+        bodies.push(self.ended(alloc)?)?;
+        bodies.push(self.diags(alloc, prover)?)
+    }
+
+    /// The end pair.
     fn end_pair(&self, alloc: Global, prover: &P) -> Result<BytesList, NoMem>
         requires { all_done self.now.check ≡ true }
         ensures { IfOk result (λ bodies. bodies ≡ end_pair (views P.means) self.now) }
     {
         let mut bodies = BytesList::new(alloc);
-        bodies.push(self.ended(alloc)?)?;
-        bodies.push(self.diags(alloc, prover)?)?;
+        self.add_end_pair(alloc, prover, &mut bodies)?;
         Ok(bodies)
     }
 
-    /// How far it is: the end pair, or what is left.
-    pub(crate) fn status(&self, alloc: Global, prover: &P) -> Result<BytesList, NoMem>
-        ensures { IfOk result (λ bodies. bodies ≡ status_bodies (views P.means) self.now) }
+    /// Adds how far it is: the end pair, or what is left.
+    pub(crate) fn add_status(
+        &self,
+        alloc: Global,
+        prover: &P,
+        bodies: &mut BytesList,
+    ) -> Result<(), NoMem>
+        ensures { OnOk result (bodies.new ≡ bodies.old ++ status_bodies (views P.means) self.now) }
     {
         if self.is_ended() {
-            return self.end_pair(alloc, prover);
+            return self.add_end_pair(alloc, prover, bodies);
         }
-        one_body(alloc, self.progress(alloc)?)
+        bodies.push(self.progress(alloc)?)
+    }
+
+    /// Behind how many sentences the goals at a position are: behind those that start at or before it, or all but the last.
+    pub(crate) fn wanted_at(&self, at: Position, after: bool) -> usize
+        ensures { result ≡ wanted_at self.now at after }
+    {
+        let started = self.check.started(self.doc.offset_of(at));
+        if after {
+            started
+        } else {
+            started.saturating_sub(1)
+        }
+    }
+
+    /// Whether so many sentences are finished that a question can be answered.
+    fn can_tell(&self, question: &Question) -> bool
+        ensures { result ≡ can_tell self.now question.now }
+    {
+        match question {
+            Question::Outline => self.is_ended(),
+            Question::Goals { sentences, .. } => *sentences <= self.done(),
+        }
+    }
+
+    /// Whether a request about it can be answered.
+    pub(crate) fn is_ready(&self, request: &Waiting) -> bool
+        ensures { result ≡ is_ready self.now request.now }
+    {
+        self.can_tell(&request.question)
+    }
+
+    /// Whether a request is about it, and can be answered.
+    pub(crate) fn is_ready_for(&self, request: &Waiting) -> bool
+        ensures { result ≡ is_ready_for self.now request.now }
+    {
+        is_about(request, self.uri.as_str()) && self.is_ready(request)
+    }
+
+    /// What is asked of it.
+    fn told_of(&self, alloc: Global, prover: &P, question: &Question) -> Result<Value, NoMem>
+        requires { can_tell self.now question.now ≡ true }
+        ensures { IfOk result (λ v. view v ≡ told_of (views P.means) self.now question.now) }
+    {
+        match question {
+            Question::Outline => symbols_value(alloc, &self.doc, &self.check, prover),
+            Question::Goals { at, sentences } => goals_value(
+                alloc,
+                &self.check,
+                prover,
+                self.uri.as_str(),
+                self.version,
+                *at,
+                *sentences,
+            ),
+        }
+    }
+
+    /// The answer to a request about it.
+    pub(crate) fn answer(
+        &self,
+        alloc: Global,
+        prover: &P,
+        request: &Waiting,
+    ) -> Result<Bytes, NoMem>
+        requires { is_ready self.now request.now ≡ true }
+        ensures { IfOk result (λ b. b ≡ answer (views P.means) self.now request.now) }
+    {
+        let told = self.told_of(alloc, prover, &request.question)?;
+        encode_result(alloc, &request.id, told)
+    }
+
+    /// Adds the answer to a request, where it is about this document and can be given.
+    fn add_answer(
+        &self,
+        alloc: Global,
+        prover: &P,
+        request: &Waiting,
+        bodies: &mut BytesList,
+    ) -> Result<(), NoMem>
+        ensures { let told = answer (views P.means) self.now request.now in
+            OnOk result (bodies.new ≡ bodies.old ++ (if is_ready_for self.now request.now then told ∷ [] else [])) }
+    {
+        if !self.is_ready_for(request) {
+            return Ok(());
+        }
+        bodies.push(self.answer(alloc, prover, request)?)
+    }
+
+    /// Adds the answers to those requests that are about this document and can be answered, in order.
+    pub(crate) fn add_answers(
+        &self,
+        alloc: Global,
+        prover: &P,
+        waiting: &[Waiting],
+        bodies: &mut BytesList,
+    ) -> Result<(), NoMem>
+        ensures { let ready = filter (is_ready_for self.now) waiting.now in
+            OnOk result (bodies.new ≡ bodies.old ++ map (answer (views P.means) self.now) ready) }
+    {
+        for request in waiting {
+            self.add_answer(alloc, prover, request, bodies)?;
+        }
+        Ok(())
+    }
+
+    /// Drops the requests that are about this document and can be answered.
+    pub(crate) fn drop_ready(&self, waiting: &mut Vec<Waiting>)
+        ensures { waiting.new.items ≡ filter (λ w. not (is_ready_for self.now w)) waiting.old.items }
+    {
+        waiting.retain(|request| !self.is_ready_for(request));
+    }
+
+    /// Adds the numbers of its finished sentences.
+    pub(crate) fn add_numbers(&self, numbers: &mut Vec<u64>) -> Result<(), NoMem>
+        ensures { OnOk result (numbers.new.items ≡ numbers.old.items ++ self.now.check.numbers) }
+    {
+        self.check.add_numbers(numbers)
     }
 
     /// How far it came, where so many sentences were finished before.

@@ -1,10 +1,12 @@
 //! A session, and what is kept of the finished sentences of its documents.
-ghost use Rattle.std.specs.Prelude.{◌≡◌, ◌≤◌, ◌<◌, ◌∷◌, ◌++◌, [], false, length, remove, take, IfOk, OnOk};
+ghost use Rattle.std.specs.Prelude.{◌≡◌, ◌≤◌, ◌<◌, ◌∷◌, ◌++◌, [], true, false, not, length, map, filter, remove, take, IfOk, OnOk};
 ghost use Rattle.base_core.specs.declared.limits.TheConstants.{TEXT_LIMIT};
 ghost use Rattle.prover_iface.specs.Exec.{Worked};
 ghost use Rattle.doc_check.specs.Check.{views};
 ghost use Rattle.doc_check.specs.Document.{doc};
-ghost use Rattle.sched_core.specs.Session.{fresh, document_at, set_documents, set_phase, update, AreShort};
+ghost use Rattle.sched_core.specs.Session.{fresh, document_at, set_documents, set_phase, set_waiting, update, AreShort};
+ghost use Rattle.sched_core.specs.Waiting.{answer, chooses, is_ready, is_ready_for};
+ghost use Rattle.sched_core.specs.Trim.{numbers_in_use, trim};
 ghost use Rattle.sched_core.specs.Messages.{set_running};
 ghost use Rattle.sched_core.specs.Documents.{restarted, status_bodies};
 ghost use Rattle.sched_core.specs.Done.{take_kept, came};
@@ -15,7 +17,8 @@ use crate::BytesList;
 use crate::lookup::first_unended;
 use crate::open_document::{NewText, OpenDocument};
 use crate::phase::Phase;
-use base_core::{NoMem, Steps, Text};
+use crate::waiting::{Choice, Waiting, drop_chosen};
+use base_core::{Bytes, NoMem, Steps, Text};
 use doc_check::document::DocCheck;
 use memo_table::MemoTable;
 use prover_iface::Prover;
@@ -35,6 +38,8 @@ pub struct Sched<P: Prover> {
     encoding: Encoding,
     /// In the order of their opening.
     documents: Vec<OpenDocument<P>>,
+    /// Requests about documents, in the order of their arrival.
+    waiting: Vec<Waiting>,
 }
 
 impl<P: Prover> Model for Sched<P> {
@@ -47,10 +52,25 @@ impl<P: Prover> Model for Sched<P> {
       phase = s.phase;
       encoding = s.encoding;
       documents = s.documents.items;
+      waiting = s.waiting.items;
       held = held_in s.table;
     } };
 
     ghost invariant = { λ s. Holds P.meaning P.means s.table s.documents.items };
+}
+
+/// The numbers of the finished sentences of documents.
+fn numbers_in_use<P: Prover>(
+    alloc: Global,
+    documents: &[OpenDocument<P>],
+) -> Result<Vec<u64>, NoMem>
+    ensures { IfOk result (λ numbers. numbers.items ≡ numbers_in_use documents.now) }
+{
+    let mut numbers = Vec::new(alloc);
+    for document in documents {
+        document.add_numbers(&mut numbers)?;
+    }
+    Ok(numbers)
 }
 
 fn is_shut_down(phase: Phase) -> bool
@@ -80,6 +100,7 @@ impl<P: Prover> Sched<P> {
             phase: Phase::Fresh,
             encoding: Encoding::Utf16,
             documents: Vec::new(alloc),
+            waiting: Vec::new(alloc),
         })
     }
 
@@ -134,6 +155,83 @@ impl<P: Prover> Sched<P> {
         ensures short { AreShort self.now.documents }
     {
         self.documents.as_slice()
+    }
+
+    /// The requests that wait, in the order of their arrival.
+    pub(crate) fn waiting(&self) -> &[Waiting]
+        ensures { result.now ≡ self.now.waiting }
+    {
+        self.waiting.as_slice()
+    }
+
+    /// A request more waits.
+    pub(crate) fn add_waiting(&mut self, request: Waiting) -> Result<(), NoMem>
+        ensures { OnOk result (self.new ≡ set_waiting (self.old.waiting ++ request ∷ []) self.old) }
+    {
+        self.waiting.push(request)?;
+        Ok(())
+    }
+
+    /// The requests that are meant wait no longer.
+    pub(crate) fn drop_chosen(&mut self, choice: &Choice)
+        ensures { self.new ≡ set_waiting (filter (λ w. not (chooses choice.now w)) self.old.waiting) self.old }
+    {
+        drop_chosen(&mut self.waiting, choice);
+    }
+
+    /// The request at a place waits no longer.
+    pub(crate) fn drop_waiting(&mut self, place: usize)
+        requires { place < length self.old.waiting }
+        ensures { self.new ≡ set_waiting (remove self.old.waiting place) self.old }
+    {
+        let _request = self.waiting.remove(place);
+    }
+
+    /// The requests about the document at a place that can be answered wait no longer.
+    pub(crate) fn drop_ready_at(&mut self, place: usize)
+        requires { place < length self.old.documents }
+        ensures { let ready = is_ready_for (document_at self.old place) in
+            self.new ≡ set_waiting (filter (λ w. not (ready w)) self.old.waiting) self.old }
+    {
+        self.documents[place].drop_ready(&mut self.waiting);
+    }
+
+    /// Adds the answers to the requests about the document at a place that can be answered.
+    pub(crate) fn add_answers_at(
+        &self,
+        alloc: Global,
+        place: usize,
+        bodies: &mut BytesList,
+    ) -> Result<(), NoMem>
+        requires { place < length self.now.documents }
+        ensures { let d = document_at self.now place in
+            let ready = filter (is_ready_for d) self.now.waiting in
+            OnOk result (bodies.new ≡ bodies.old ++ map (answer (views P.means) d) ready) }
+    {
+        self.document(place)
+            .add_answers(alloc, &self.prover, self.waiting(), bodies)
+    }
+
+    /// The answer to a request about the document at a place.
+    pub(crate) fn answer_at(
+        &self,
+        alloc: Global,
+        place: usize,
+        request: &Waiting,
+    ) -> Result<Bytes, NoMem>
+        requires within { place < length self.now.documents }
+        requires ready { is_ready (document_at self.now place) request.now ≡ true }
+        ensures { IfOk result (λ b. b ≡ answer (views P.means) (document_at self.now place) request.now) }
+    {
+        self.document(place).answer(alloc, &self.prover, request)
+    }
+
+    /// The table forgets the finished sentences that no open document uses.
+    pub(crate) fn trim(&mut self, alloc: Global) -> Result<(), NoMem>
+        ensures { OnOk result (self.new ≡ trim self.old) }
+    {
+        let hold = numbers_in_use(alloc, self.documents.as_slice())?;
+        self.table.trim(alloc, hold.as_slice())
     }
 
     /// The document at a place.
@@ -230,12 +328,18 @@ impl<P: Prover> Sched<P> {
         self.documents[place].run_next(alloc, &self.prover, &mut self.table, steps)
     }
 
-    /// What the document at a place says of how far it is.
-    pub(crate) fn status_at(&self, alloc: Global, place: usize) -> Result<BytesList, NoMem>
+    /// Adds what the document at a place says of how far it is.
+    pub(crate) fn add_status_at(
+        &self,
+        alloc: Global,
+        place: usize,
+        bodies: &mut BytesList,
+    ) -> Result<(), NoMem>
         requires { place < length self.now.documents }
-        ensures { IfOk result (λ bodies. bodies ≡ status_bodies (views P.means) (document_at self.now place)) }
+        ensures { let told = status_bodies (views P.means) (document_at self.now place) in
+            OnOk result (bodies.new ≡ bodies.old ++ told) }
     {
-        self.document(place).status(alloc, &self.prover)
+        self.document(place).add_status(alloc, &self.prover, bodies)
     }
 
     /// How far it came, where so many sentences were finished before.

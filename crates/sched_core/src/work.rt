@@ -32,7 +32,9 @@ impl<P: Prover> Sched<P> {
         }
         let before = self.document(place).done();
         self.spend_at(alloc, place, units, steps)?;
-        Ok(written(self.progress_at(alloc, place, before)?))
+        let mut bodies = self.progress_at(alloc, place, before)?;
+        self.answer_ready(alloc, place, &mut bodies)?;
+        Ok(written(bodies))
     }
 
     /// Units for a document.
@@ -64,7 +66,9 @@ impl<P: Prover> Sched<P> {
         ensures work { Worked (run_at (views P.means) place self.old).work steps.old steps.new result }
     {
         self.run_next_at(alloc, place, steps)?;
-        Ok(written(self.pair_at(alloc, place)?))
+        let mut bodies = self.pair_at(alloc, place)?;
+        self.answer_ready(alloc, place, &mut bodies)?;
+        Ok(written(bodies))
     }
 
     /// The step where nothing came.

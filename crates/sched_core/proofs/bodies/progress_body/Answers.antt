@@ -1,7 +1,8 @@
 use Rattle.std.proofs.Common.{codes, length, [], ◌∷◌, rules}
 use Rattle.serde_json.specs.View.{view}
 use Rattle.utf16_doc.specs.Indexed.{position_in}
-use Rattle.sched_core.specs.Bodies.{progress_data, processing_data, range_data}
+use Rattle.goals_query.specs.Places.{range_data}
+use Rattle.sched_core.specs.Bodies.{progress_data, processing_data}
 use Rattle.sched_core.proofs.Floats.{progress_whole, note_is}
 use Rattle.sched_core.proofs.bodies.progress_body.Goals as goal
 

@@ -5,5 +5,5 @@ use Rattle.sched_core.proofs.sched.Sched.renew.Goals as goal
 
 pub returns : goal.returns
 returns g c =
-    renew_made (views g.P.Prover.means) c.args.self.now c.restart.new.self c.settle.new.self c.args.place c.args.version c.args.new.doc.encoding c.args.new.doc.text c.settle.result
-    c.requires.same (search rules) c.settle.ensures
+    renew_made (views g.P.Prover.means) c.args.self.now c.outdate_at.new.self c.begin_again.new.self c.args.place c.args.version _ c.args.new.doc.text c.new-bodies.result c.outdate_at.new.bodies c.begin_again.new.bodies
+    c.in_ok-outdate_at.field-0 c.in_ok-begin_again.field-0 c.written.result (search rules) c.new-bodies.ensures c.in_ok-outdate_at.ensures c.in_ok-begin_again.ensures c.written.ensures.bodies c.written.ensures.exit

@@ -1,5 +1,4 @@
 use Rattle.std.proofs.Common.{◌≡◌, ◌<◌, length, slice_set, refl, subst, sym}
-use Rattle.doc_check.specs.Check.{views}
 use Rattle.sched_core.specs.Session.{document_in}
 use Rattle.sched_core.specs.Coming.{Carries}
 use Rattle.sched_core.specs.Done.{take_kept}

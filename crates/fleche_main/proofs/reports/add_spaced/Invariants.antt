@@ -1,6 +1,0 @@
-use Rattle.std.proofs.Common.{◌≡◌, ◌++◌, drop, string_bytes}
-use Rattle.fleche_main.specs.Reports.{spaced}
-use Rattle.fleche_main.proofs.reports.add_spaced.Given as goal
-
-abbrev pub invariant-loop-name : goal.invariant-loop-name
-invariant-loop-name l = string_bytes l.lines ++ spaced (drop l.name-index l.names) ≡ string_bytes l.initial.lines ++ spaced l.names
