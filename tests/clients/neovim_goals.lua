@@ -74,7 +74,9 @@ end)
 await('the end of a long check', function()
   return vim.b[buffer].fleche_checking == false
 end)
-expect('how many diagnostics', #vim.diagnostic.get(buffer), 0)
+await('no diagnostics', function()
+  return #vim.diagnostic.get(buffer) == 0
+end)
 vim.cmd('FlecheGoals!')
 expect('the window is closed', vim.fn.bufwinid('Goals'), -1)
 client.stop()
