@@ -63,6 +63,9 @@ impl Scope {
     pub fn with_binder(&self, alloc: Global, name: &Text, own: Text) -> Result<Scope, NoMem>
         ensures { IfOk result (λ s. s ≡ own ∷ self.now) }
     {
+        if own.as_str() == "_" {
+            return self.with_first(alloc, own);
+        }
         let inner = self.with_first(alloc, own)?;
         inner.with_number(alloc, stem_of(alloc, name)?)
     }
