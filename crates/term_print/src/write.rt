@@ -383,7 +383,7 @@ fn write_quantified(
     let own = scope.fresh(alloc, name)?;
     page.put("forall ")?;
     write_first_binder(page, alloc, env, is_quantified(body), &own, ty, scope)?;
-    let inner = scope.with_first(alloc, own)?;
+    let inner = scope.with_binder(alloc, name, own)?;
     write_products(page, alloc, env, body, &inner)
 }
 
@@ -430,7 +430,7 @@ fn write_next_product(
     let own = scope.fresh(alloc, name)?;
     page.put(" ")?;
     write_group(page, alloc, env, &own, ty, scope)?;
-    let inner = scope.with_first(alloc, own)?;
+    let inner = scope.with_binder(alloc, name, own)?;
     write_products(page, alloc, env, body, &inner)
 }
 
@@ -451,7 +451,7 @@ fn write_function(
     let own = parameter(alloc, scope, name, body)?;
     page.put("fun ")?;
     write_first_binder(page, alloc, env, is_function(body), &own, ty, scope)?;
-    let inner = scope.with_first(alloc, own)?;
+    let inner = scope.with_binder(alloc, name, own)?;
     write_functions(page, alloc, env, body, &inner)
 }
 
@@ -496,7 +496,7 @@ fn write_next_function(
     let own = parameter(alloc, scope, name, body)?;
     page.put(" ")?;
     write_group(page, alloc, env, &own, ty, scope)?;
-    let inner = scope.with_first(alloc, own)?;
+    let inner = scope.with_binder(alloc, name, own)?;
     write_functions(page, alloc, env, body, &inner)
 }
 
@@ -520,7 +520,7 @@ fn write_let(
     page.put(" := ")?;
     write_at(page, alloc, env, 200, value, scope)?;
     page.put(" in ")?;
-    let inner = scope.with_first(alloc, own)?;
+    let inner = scope.with_binder(alloc, name, own)?;
     write_at(page, alloc, env, 200, body, &inner)
 }
 
