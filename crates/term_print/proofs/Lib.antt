@@ -1,5 +1,6 @@
 mod FreshLaws
 mod NameLaws
+mod NamedLaws
 mod OperationLaws
 mod PageLaws
 mod Samples

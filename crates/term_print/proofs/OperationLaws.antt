@@ -5,7 +5,8 @@ use Rattle.cic_rules.specs.declared.env.Slot.{Slot}
 use Rattle.term_spine.specs.Spine.{IsHead, arguments_size}
 use Rattle.term_print.specs.declared.operations.Operation.{Operation}
 use Rattle.term_print.specs.declared.operations.Operation.TheVariants.{Plain, Negation, Conjunction, Disjunction, Equation}
-use Rattle.term_print.specs.Show.{show, show_all, is_used, global_name}
+use Rattle.term_print.specs.Show.{global_name}
+use Rattle.term_print.specs.Named.{show, show_all, is_named}
 use Rattle.term_print.specs.Pieces.{Piece, piece, applied, operation}
 use Rattle.term_print.specs.Operations.{operation_of, written, operands_size, applied_level, operation_level, spine_level}
 
@@ -50,7 +51,7 @@ level_shown env (Sorted s) args names head = level_applied _ env args names
 level_shown env (Constant c) args names head =
     ap (λ p. p.level) (operation_written env (global_name env c) args names) ∙ level_written env (global_name env c) args names (operation_of (global_name env c) args)
 level_shown env (Prod n a b) args names head =
-    level_applied _ env args names ∙ ap (λ l. applied_level l args) (level_if (is_used b) _ _)
+    level_applied _ env args names ∙ ap (λ l. applied_level l args) (level_if (is_named n) _ _)
 level_shown env (Lam n a b) args names head = level_applied _ env args names
 level_shown env (LetIn n a t b) args names head = level_applied _ env args names
 level_shown env (App f a) args names head = absurd head

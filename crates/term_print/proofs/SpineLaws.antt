@@ -7,7 +7,7 @@ use Rattle.term_spine.specs.declared.spines.Spine.{Spine}
 use Rattle.term_spine.specs.Spines.{IsSpineOf}
 use Rattle.term_spine.specs.Spine.{apply_all, arguments_size}
 use Rattle.term_print.specs.Pieces.{Piece}
-use Rattle.term_print.specs.Show.{show, show_all}
+use Rattle.term_print.specs.Named.{show, show_all}
 
 shown_applied : (env : List Slot) (h : Tree) (args : List Tree) (more : List Piece) (names : List (List ℕ)) →
     show env (apply_all h args) more names ≡ show env h (show_all env args names ++ more) names

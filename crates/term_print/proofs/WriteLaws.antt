@@ -5,7 +5,7 @@ use Rattle.core_term.specs.Tree.{Tree}
 use Rattle.cic_rules.specs.declared.env.Slot.{Slot}
 use Rattle.term_spine.specs.declared.spines.Spine.{Spine}
 use Rattle.term_spine.specs.Spines.{IsSpineOf}
-use Rattle.term_print.specs.Show.{show, show_all}
+use Rattle.term_print.specs.Named.{show, show_all}
 use Rattle.term_print.specs.Pieces.{at_most}
 use Rattle.term_print.specs.Operations.{spine_level}
 use Rattle.term_print.specs.Pages.{added}

@@ -3,5 +3,6 @@ pub mod Scope
 pub mod Pieces
 pub mod Pages
 pub mod Show
+pub mod Named
 pub mod Operations
 pub mod Parts

@@ -4,7 +4,8 @@ use Rattle.core_term.specs.Tree.{Tree, Var, Sorted, Constant, Prod, Lam, LetIn, 
 use Rattle.cic_rules.specs.declared.env.Slot.{Slot}
 use Rattle.term_print.specs.declared.operations.Operation.{Operation}
 use Rattle.term_print.specs.declared.operations.Operation.TheVariants.{Plain, Negation, Conjunction, Disjunction, Equation}
-use Rattle.term_print.specs.Show.{show, show_all, is_used, global_name}
+use Rattle.term_print.specs.Show.{global_name}
+use Rattle.term_print.specs.Named.{show, show_all, is_named}
 use Rattle.term_print.specs.Pieces.{Piece, piece, applied, negation, conjunction, disjunction, equation}
 
 -- the operation that a global of this name makes of its arguments
@@ -54,7 +55,7 @@ abbrev pub spine_level : List Slot → Tree → List Tree → ℕ
 spine_level env (Var i) args = applied_level 0 args
 spine_level env (Sorted s) args = applied_level 0 args
 spine_level env (Constant c) args = constant_level env c args
-spine_level env (Prod n a b) args = applied_level (if is_used b then 200 else 99) args
+spine_level env (Prod n a b) args = applied_level (if is_named n then 200 else 99) args
 spine_level env (Lam n a b) args = applied_level 200 args
 spine_level env (LetIn n a t b) args = applied_level 200 args
 spine_level env (App f a) args = 10

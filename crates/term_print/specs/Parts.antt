@@ -1,10 +1,11 @@
--- What the parts of a term are written as, one word for each.
+-- What the parts of a named term are written as, one word for each.
 use Rattle.std.specs.Prelude.{ℕ, List, [], ◌∷◌, codes}
 use Rattle.core_term.specs.Tree.{Tree}
 use Rattle.cic_rules.specs.declared.env.Slot.{Slot}
 use Rattle.term_print.specs.Freshness.{fresh}
 use Rattle.term_print.specs.Pieces.{Piece, argument_texts, applied, arrow, operation, quantified, function, definition, rest_of_run}
-use Rattle.term_print.specs.Show.{show, show_all, is_quantified, is_function, parameter, global_name}
+use Rattle.term_print.specs.Show.{is_function, global_name}
+use Rattle.term_print.specs.Named.{show, show_all, is_quantified, parameter}
 
 -- a term that is applied to nothing more
 abbrev pub shown : List Slot → Tree → List (List ℕ) → Piece
@@ -36,7 +37,7 @@ abbrev pub quantified_in_run : List Slot → List ℕ → Tree → Tree → List
 quantified_in_run env n a b names = (quantified_at env n a b names).in_run
 
 abbrev pub function_at : List Slot → List ℕ → Tree → Tree → List (List ℕ) → Piece
-function_at env n a b names = function (is_function b) (parameter names n b) (shown env a names) (shown env b (parameter names n b ∷ names))
+function_at env n a b names = function (is_function b) (parameter names n) (shown env a names) (shown env b (parameter names n ∷ names))
 
 abbrev pub function_in_run : List Slot → List ℕ → Tree → Tree → List (List ℕ) → List ℕ
 function_in_run env n a b names = (function_at env n a b names).in_run

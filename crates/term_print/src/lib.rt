@@ -1,6 +1,7 @@
 //! Terms as texts, with the operators of the prelude and with names that are free.
 #![tactic(auto)]
 
+mod named;
 mod operations;
 mod page;
 mod print;

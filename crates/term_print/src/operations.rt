@@ -2,7 +2,7 @@
 ghost use Rattle.std.specs.Prelude.{◌≡◌, ◌∷◌, IfOk};
 ghost use Rattle.core_term.specs.Tree.{App};
 ghost use Rattle.term_print.specs.Operations.{operation_of, spine_level};
-ghost use Rattle.term_print.specs.Show.{is_used, global_name};
+ghost use Rattle.term_print.specs.Show.{global_name};
 
 use base_core::{NoMem, Text};
 use cic_rules::GlobalEnv;
@@ -97,11 +97,4 @@ pub fn global_name(alloc: Global, env: &GlobalEnv, place: u32) -> Result<Text, N
         Some(entry) => entry.name.share(),
         None => Text::copy(alloc, ""),
     }
-}
-
-/// Whether the variable of a binder stands in what is under it.
-pub fn is_used(body: &Term) -> bool
-    ensures { result ≡ is_used body.now }
-{
-    body.occurrences(0) > 0
 }

@@ -5,6 +5,7 @@ ghost use Rattle.term_print.specs.Pages.{added, large, text_or_large};
 ghost use Rattle.term_print.specs.Pieces.{at_most};
 ghost use Rattle.term_print.specs.Show.{show, hyp_names, global_names, names_around, whole_text, printed};
 
+use crate::named::named;
 use crate::operations::global_name;
 use crate::page::Page;
 use crate::scope::Scope;
@@ -28,12 +29,14 @@ pub fn print_term(alloc: Global, env: &GlobalEnv, ctx: &Context, t: &Term) -> Re
 }
 
 /// The same of a term that has not too many nodes.
+#[tactic(auto, using(crate::proofs::NamedLaws::shown_named))]
 fn print_small(alloc: Global, env: &GlobalEnv, ctx: &Context, t: &Term) -> Result<Text, NoMem>
     ensures { IfOk result (λ text. text ≡ text_or_large (added (Some []) (whole_text env.now ctx.now t.now))) }
 {
     let scope = names_around(alloc, env, ctx, t)?;
+    let named = named(alloc, t)?;
     let mut page = Page::new(alloc);
-    write_at(&mut page, alloc, env, 200, t, &scope)?;
+    write_at(&mut page, alloc, env, 200, &named, &scope)?;
     page.into_text(alloc)
 }
 

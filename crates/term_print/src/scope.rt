@@ -171,7 +171,7 @@ fn candidate(alloc: Global, stem: &Text, k: usize) -> Result<Text, NoMem>
 }
 
 /// What the names of a binder begin with.
-fn stem_of(alloc: Global, name: &Text) -> Result<Text, NoMem>
+pub(crate) fn stem_of(alloc: Global, name: &Text) -> Result<Text, NoMem>
     ensures { IfOk result (λ stem. stem ≡ stem_of name.now) }
 {
     if name.as_str() == "_" {

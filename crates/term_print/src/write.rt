@@ -1,13 +1,15 @@
-//! What is written for a term, part by part.
+//! What is written for a named term, part by part.
 ghost use Rattle.std.specs.Prelude.{◌≡◌, OnOk, IfOk};
 ghost use Rattle.term_spine.specs.Spine.{IsHead};
 ghost use Rattle.term_print.specs.Pieces.{at_most, sort_text, group, binding, first_binder};
-ghost use Rattle.term_print.specs.Show.{is_quantified, is_function, parameter, variable_name};
+ghost use Rattle.term_print.specs.Show.{is_function, variable_name};
+ghost use Rattle.term_print.specs.Named.{is_quantified, parameter};
 ghost use Rattle.term_print.specs.Parts.{shown, shown_spine, shown_applied, shown_global, shown_arguments, arrow_at, quantified_at, quantified_in_run, function_at, function_in_run, let_text, behind_product, behind_parameter};
 ghost use Rattle.term_print.specs.Operations.{plain, written, spine_level, applied_level, constant_level};
 ghost use Rattle.term_print.specs.Pages.{added};
 
-use crate::operations::{Operation, global_name, is_used, operation_of};
+use crate::named::is_named;
+use crate::operations::{Operation, global_name, operation_of};
 use crate::page::Page;
 use crate::scope::Scope;
 use crate::spine::spine;
@@ -54,10 +56,10 @@ fn variable_name(alloc: Global, scope: &Scope, i: u32) -> Result<Text, NoMem>
 }
 
 /// The name under which the binder of a function is written.
-fn parameter(alloc: Global, scope: &Scope, name: &Text, body: &Term) -> Result<Text, NoMem>
-    ensures { IfOk result (λ own. own ≡ parameter scope.now name.now body.now) }
+fn parameter(alloc: Global, scope: &Scope, name: &Text) -> Result<Text, NoMem>
+    ensures { IfOk result (λ own. own ≡ parameter scope.now name.now) }
 {
-    if is_used(body) {
+    if is_named(name) {
         scope.fresh(alloc, name)
     } else {
         Text::copy(alloc, "_")
@@ -68,7 +70,7 @@ fn is_quantified(t: &Term) -> bool
     ensures { result ≡ is_quantified t.now }
 {
     match t.node() {
-        Node::Prod { codomain, .. } => is_used(codomain),
+        Node::Prod { name, .. } => is_named(name),
         _ => false,
     }
 }
@@ -91,8 +93,8 @@ fn spine_level(alloc: Global, env: &GlobalEnv, head: &Term, args: &Arguments) ->
         Node::Var(_) => applied_level(0, args),
         Node::Sorted(_) => applied_level(0, args),
         Node::Constant(c) => constant_level(alloc, env, *c, args),
-        Node::Prod { codomain, .. } => {
-            if is_used(codomain) {
+        Node::Prod { name, .. } => {
+            if is_named(name) {
                 applied_level(200, args)
             } else {
                 applied_level(99, args)
@@ -159,7 +161,7 @@ pub fn write_at(
 
 /// A head with its arguments.
 #[cycle(write)]
-#[tactic(auto, unfolding(crate::specs::Show::show))]
+#[tactic(auto, unfolding(crate::specs::Named::show))]
 fn write_spine(
     page: &mut Page,
     alloc: Global,
@@ -302,7 +304,7 @@ fn write_arguments(
 
 /// A term that is not applied to anything, without parentheses.
 #[cycle(write)]
-#[tactic(auto, unfolding(crate::specs::Show::show))]
+#[tactic(auto, unfolding(crate::specs::Named::show))]
 fn write_head(
     page: &mut Page,
     alloc: Global,
@@ -328,7 +330,7 @@ fn write_head(
             domain,
             codomain,
         } => {
-            if is_used(codomain) {
+            if is_named(name) {
                 write_quantified(page, alloc, env, name, domain, codomain, scope)
             } else {
                 write_arrow(page, alloc, env, domain, codomain, scope)
@@ -389,7 +391,7 @@ fn write_quantified(
 
 /// What follows a binder of a run of products.
 #[cycle(write)]
-#[tactic(auto, unfolding(crate::specs::Show::show), using(crate::proofs::PageLaws::added_append))]
+#[tactic(auto, unfolding(crate::specs::Named::show), using(crate::proofs::PageLaws::added_append))]
 fn write_products(
     page: &mut Page,
     alloc: Global,
@@ -404,7 +406,7 @@ fn write_products(
             name,
             domain,
             codomain,
-        } if is_used(codomain) => {
+        } if is_named(name) => {
             write_next_product(page, alloc, env, name, domain, codomain, scope)
         }
         _ => {
@@ -448,7 +450,7 @@ fn write_function(
 ) -> Result<(), NoMem>
     ensures { OnOk result (page.new ≡ added page.old (function_at env.now name.now ty.now body.now scope.now).text) }
 {
-    let own = parameter(alloc, scope, name, body)?;
+    let own = parameter(alloc, scope, name)?;
     page.put("fun ")?;
     write_first_binder(page, alloc, env, is_function(body), &own, ty, scope)?;
     let inner = scope.with_binder(alloc, name, own)?;
@@ -457,7 +459,7 @@ fn write_function(
 
 /// What follows a binder of a run of functions.
 #[cycle(write)]
-#[tactic(auto, unfolding(crate::specs::Show::show), using(crate::proofs::PageLaws::added_append))]
+#[tactic(auto, unfolding(crate::specs::Named::show), using(crate::proofs::PageLaws::added_append))]
 fn write_functions(
     page: &mut Page,
     alloc: Global,
@@ -493,7 +495,7 @@ fn write_next_function(
 ) -> Result<(), NoMem>
     ensures { OnOk result (page.new ≡ added page.old (function_in_run env.now name.now ty.now body.now scope.now)) }
 {
-    let own = parameter(alloc, scope, name, body)?;
+    let own = parameter(alloc, scope, name)?;
     page.put(" ")?;
     write_group(page, alloc, env, &own, ty, scope)?;
     let inner = scope.with_binder(alloc, name, own)?;
