@@ -1,6 +1,6 @@
 -- Named terms: they are written as the terms are, they are no larger, and one pass marks the binders that are used.
 use Rattle.std.specs.Prelude.{if◌then◌else◌, nat_lt, not, bytes_eq, slice_set, ◌||◌, ◌==◌}
-use Rattle.std.proofs.Common.{◌≡◌, ℕ, zero, suc, ◌+◌, ◌-◌, ◌<◌, ◌≤◌, max, List, [], ◌∷◌, ◌++◌, length, codes, Bool, true, false, Option, Some, None, Result, Ok, Err, OnOk, refl, sym, ap, ◌∙◌, arith}
+use Rattle.std.proofs.Common.{◌≡◌, ℕ, suc, ◌+◌, ◌-◌, ◌<◌, ◌≤◌, List, [], ◌∷◌, ◌++◌, length, codes, Bool, true, false, Result, Ok, Err, OnOk, refl, sym, ap, ◌∙◌, arith}
 use Rattle.std.proofs.lemmas.Bool.Decides.{nat_tests}
 use Rattle.core_term.specs.Tree.{Tree, Var, Sorted, Constant, Prod, Lam, LetIn, App, size_of, depth_of, IsTerm}
 use Rattle.core_term.specs.declared.sorts.Sort.{Sort}
@@ -10,7 +10,7 @@ use Rattle.core_term.specs.Answers.{within_limits}
 use Rattle.core_term.specs.Tree.{is_small}
 use Rattle.cic_rules.specs.declared.env.Slot.{Slot}
 use Rattle.term_print.specs.Freshness.{fresh, stem_of, first_free}
-use Rattle.term_print.specs.Pieces.{Piece, at_most, applied, arrow, quantified, function, definition}
+use Rattle.term_print.specs.Pieces.{Piece, applied, arrow, quantified, function, definition}
 use Rattle.term_print.specs.Show.{show, is_used, is_quantified, is_function, parameter}
 use Rattle.term_print.specs.Named.{named, own_name, is_named, marked, marked_under, show as show_named, is_quantified as is_quantified_named, parameter as parameter_named}
 use Rattle.term_print.proofs.SpineLaws.{term_small}
@@ -131,9 +131,9 @@ or_none false = refl
 
 sum_by : (x y : ℕ) → (nat_lt 0 x || nat_lt 0 y) ≡ nat_lt 0 (x + y)
 sum_by x y = elim (nat_lt 0 x) as (λ b. nat_lt 0 x ≡ b → (b || nat_lt 0 y) ≡ nat_lt 0 (x + y)) [
-    | true ↦ λ h. grind (arith, nat_tests)
-    | false ↦ λ h. let e : x ≡ 0 = grind (arith, nat_tests) in let k : y ≡ x + y = omega (arith, e) in ap (nat_lt 0) k
-  ] refl
+  | true ↦ λ h. grind (arith, nat_tests)
+  | false ↦ λ h. let e : x ≡ 0 = grind (arith, nat_tests) in let k : y ≡ x + y = omega (arith, e) in ap (nat_lt 0) k
+] refl
 
 or_sum : (b : Bool) (x y : ℕ) → ((b || nat_lt 0 x) || nat_lt 0 y) ≡ (b || nat_lt 0 (x + y))
 or_sum true x y = refl

@@ -1,5 +1,5 @@
 -- Terms whose binders are named `_` exactly where their variables are not used, and how these are written.
-use Rattle.std.specs.Prelude.{◌≡◌, bytes_eq, ℕ, ◌+◌, nat_lt, List, [], ◌∷◌, length, codes, Bool, true, false, not, ◌||◌, Result, Ok, Err, if◌then◌else◌}
+use Rattle.std.specs.Prelude.{◌≡◌, bytes_eq, ℕ, ◌+◌, nat_lt, List, [], ◌∷◌, length, codes, Bool, false, not, ◌||◌, Result, Ok, Err, if◌then◌else◌}
 use Rattle.core_term.specs.Tree.{Tree, Var, Sorted, Constant, Prod, Lam, LetIn, App}
 use Rattle.core_term.specs.Places.{occurrences}
 use Rattle.core_term.specs.Answers.{within_limits}
