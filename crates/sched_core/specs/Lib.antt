@@ -9,3 +9,4 @@ pub mod Trim
 pub mod Work
 pub mod Messages
 pub mod Plain
+pub mod Pending

@@ -1,7 +1,15 @@
 //! Laws of the plain session, for the crates above. Each function does nothing.
+ghost use Rattle.sched_core.specs.Pending.{BeginsWaiting, NoneWaitsInVain, StepsKeepWaiting};
 ghost use Rattle.sched_core.specs.Plain.{StepsEnd};
 
 /// A message adds no more steps without a message than a text has bytes, and each such step takes one away.
 pub fn law_of_idle_steps()
     ensures { StepsEnd }
+{}
+
+/// Each request that waits does so for an open document, whatever comes: so none waits where each text is checked.
+pub fn law_of_waiting()
+    ensures first { BeginsWaiting }
+    ensures steps { StepsKeepWaiting }
+    ensures none { NoneWaitsInVain }
 {}
