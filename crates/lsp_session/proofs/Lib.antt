@@ -12,3 +12,4 @@ pub mod StatusLemmas
 pub mod LeavingLemmas
 pub mod GivenLemmas
 pub mod ServedLemmas
+pub mod WaitLemmas

@@ -3,6 +3,7 @@
 
 ghost use Rattle.lsp_session.specs.Causes.{EndingsHaveCauses, StatusesHaveCauses, CleanExits, NoExits};
 ghost use Rattle.lsp_session.specs.Causes.{WholeSessionsEndClean, TakenSessionsEndClean, GivenSessionsEndClean, ServedSessionsHaveCauses};
+ghost use Rattle.lsp_session.specs.Waits.{SessionsWaitForNobody, ServedSessionsWaitForNobody, BrokenSessionsWaitForNobody};
 
 /// Each ending of a session comes exactly where the polls of its call brought its cause.
 pub fn law_of_endings()
@@ -32,4 +33,12 @@ pub fn law_of_completeness()
 /// All this of a session over a link and a sink, by its status and the polls of its call.
 pub fn law_of_serving()
     ensures { ServedSessionsHaveCauses }
+{}
+
+/// In a session that isn't paced, every request that waits is answered before the link is asked to wait: at
+/// each poll that may wait no request waits. So it is in one that is broken off.
+pub fn law_of_waiting()
+    ensures runs { SessionsWaitForNobody }
+    ensures served { ServedSessionsWaitForNobody }
+    ensures broken { BrokenSessionsWaitForNobody }
 {}

@@ -10,6 +10,7 @@ pub mod Idles
 pub mod PendingLemmas
 pub mod PendingSteps
 pub mod PendingLaws
+pub mod AnsweredLemmas
 pub mod Kept
 pub mod Made
 pub mod Settled

@@ -10,3 +10,4 @@ pub mod Work
 pub mod Messages
 pub mod Plain
 pub mod Pending
+pub mod Answered

@@ -1,4 +1,5 @@
 //! Laws of the plain session, for the crates above. Each function does nothing.
+ghost use Rattle.sched_core.specs.Answered.{StepsForgetNone};
 ghost use Rattle.sched_core.specs.Pending.{BeginsWaiting, NoneWaitsInVain, StepsKeepWaiting};
 ghost use Rattle.sched_core.specs.Plain.{StepsEnd};
 
@@ -8,8 +9,10 @@ pub fn law_of_idle_steps()
 {}
 
 /// Each request that waits does so for an open document, whatever comes: so none waits where each text is checked.
+/// A step that no longer has it waiting answers it.
 pub fn law_of_waiting()
     ensures first { BeginsWaiting }
     ensures steps { StepsKeepWaiting }
     ensures none { NoneWaitsInVain }
+    ensures answered { StepsForgetNone }
 {}

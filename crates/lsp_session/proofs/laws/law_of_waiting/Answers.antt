@@ -1,0 +1,5 @@
+use Rattle.lsp_session.proofs.WaitLemmas.{sessions_wait_for_nobody, served_sessions_wait, broken_sessions_wait}
+use Rattle.lsp_session.proofs.laws.law_of_waiting.Goals as goal
+
+pub returns : goal.returns
+returns c = record { runs = sessions_wait_for_nobody; served = served_sessions_wait; broken = broken_sessions_wait }
