@@ -41,8 +41,8 @@ pub record KeepsWaiting (session : Session) (made : Step Session) : Type 0 where
   pub waits : AllWaitForOpen made.state
 
 -- so it is from the beginning on
-abbrev pub BeginsWaiting : Type 0
-BeginsWaiting = (paced : Bool) → AllWaitForOpen (fresh paced)
+abbrev pub AllWaitAtStart : Type 0
+AllWaitAtStart = (paced : Bool) → AllWaitForOpen (fresh paced)
 
 abbrev pub StepsKeepWaiting : Type 0
 StepsKeepWaiting = (views : Views) (session : Session) (event : Event) → AllWaitForOpen session → KeepsWaiting session (step views session event)
