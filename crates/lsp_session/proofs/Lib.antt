@@ -12,3 +12,5 @@ pub mod StatusLemmas
 pub mod LeavingLemmas
 pub mod GivenLemmas
 pub mod ServedLemmas
+pub mod Along
+pub mod WaitLemmas

@@ -5,3 +5,4 @@ pub mod Calls
 pub mod Serves
 pub mod Served
 pub mod Causes
+pub mod Waits

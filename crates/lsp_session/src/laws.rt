@@ -3,6 +3,8 @@
 
 ghost use Rattle.lsp_session.specs.Causes.{EndingsHaveCauses, StatusesHaveCauses, CleanExits, NoExits};
 ghost use Rattle.lsp_session.specs.Causes.{WholeSessionsEndClean, TakenSessionsEndClean, GivenSessionsEndClean, ServedSessionsHaveCauses};
+ghost use Rattle.lsp_session.specs.Waits.{SessionsWaitForNobody, SessionsForgetNone, SessionsAnswerFirst};
+ghost use Rattle.lsp_session.specs.Waits.{ServedSessionsWaitForNobody, BrokenSessionsWaitForNobody};
 
 /// Each ending of a session comes exactly where the polls of its call brought its cause.
 pub fn law_of_endings()
@@ -32,4 +34,14 @@ pub fn law_of_completeness()
 /// All this of a session over a link and a sink, by its status and the polls of its call.
 pub fn law_of_serving()
     ensures { ServedSessionsHaveCauses }
+{}
+
+/// In a session that isn't paced, every request that waits is answered before the link is asked to wait: no request
+/// waits at a poll that may wait, and none is forgotten. So it is in a session that is broken off.
+pub fn law_of_waiting()
+    ensures runs { SessionsWaitForNobody }
+    ensures forgets { SessionsForgetNone }
+    ensures answers { SessionsAnswerFirst }
+    ensures served { ServedSessionsWaitForNobody }
+    ensures broken { BrokenSessionsWaitForNobody }
 {}

@@ -12,5 +12,6 @@ mod write;
 
 pub use laws::{
     law_of_completeness, law_of_endings, law_of_exits, law_of_serving, law_of_statuses,
+    law_of_waiting,
 };
 pub use session::{serve, serve_within};

@@ -97,7 +97,7 @@ removed_at documents place within = omega (arith, sum_by-remove unfinished docum
 fits : (text : List ℕ) → is_too_long text ≡ false → length text ≤ TEXT_LIMIT
 fits text h = ltb-false TEXT_LIMIT (length text) h
 
-found_within : (uri : List ℕ) (documents : List Document) (place : ℕ) → place_of uri documents ≡ Some place → place < length documents
+pub found_within : (uri : List ℕ) (documents : List Document) (place : ℕ) → place_of uri documents ≡ Some place → place < length documents
 found_within uri documents place e = (position-Some (λ d. bytes_eq d.uri uri) documents place (document_in [] 0) e).0
 
 known_adds : (session : Session) (uri : List ℕ) (found : Option ℕ) (next : ℕ → Session → Step Session) → place_of uri session.documents ≡ found → ((place : ℕ) → place < length session.documents → Adds session (next place session)) → Adds session (at_known found next session)

@@ -1,11 +1,16 @@
 pub mod Floats
 pub mod Few
 pub mod Lists
+pub mod Places
 pub mod Taken
 pub mod Carrying
 pub mod Units
 pub mod Spending
 pub mod Idles
+pub mod PendingLemmas
+pub mod PendingSteps
+pub mod PendingLaws
+pub mod AnsweredLemmas
 pub mod Kept
 pub mod Made
 pub mod Settled

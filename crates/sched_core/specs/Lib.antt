@@ -9,3 +9,5 @@ pub mod Trim
 pub mod Work
 pub mod Messages
 pub mod Plain
+pub mod Pending
+pub mod Answered

@@ -18,6 +18,6 @@ mod waiting;
 mod work;
 
 pub use events::{BytesList, Event, Exit, Written};
-pub use laws::law_of_idle_steps;
+pub use laws::{law_of_idle_steps, law_of_waiting};
 pub use phase::Phase;
 pub use sched::Sched;
