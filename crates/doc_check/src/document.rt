@@ -15,9 +15,8 @@ ghost use Rattle.doc_check.specs.Document.{doc, parts, state_at, done, all_done,
 ghost use Rattle.doc_check.specs.Stands.{Follows, Stands, Moved, IsHeld, IsKept, Runs, Advanced, cost_here, TookOne};
 
 use crate::finished::{Finished, copy_of, from_kept};
-use crate::incremental::next_from;
 use crate::reporting::report_diags;
-use crate::{AbsDiagList, Advance, Report};
+use crate::{AbsDiagList, Report};
 use base_core::{NoMem, Steps, Text};
 use memo_table::{Kept, Key, MemoTable};
 use prover_iface::{DiagList, GoalsView, Outcome, OutlineList, Prover};
@@ -25,6 +24,17 @@ use sentence_split::{Span, SpanList, resplit, split};
 use std::alloc::Global;
 use std::marker::Model;
 use std::sync::ledger::Ledger;
+
+/// What became of a call to finish one more sentence.
+#[derive(Clone, Copy, Debug, PartialEq, Eq)]
+pub enum Advance {
+    /// There is none.
+    Ended,
+    /// It is finished, at this cost.
+    Finished { spent: u32 },
+    /// It costs more than the units, and nothing came of it.
+    Interrupted,
+}
 
 /// A text that is checked sentence by sentence over a table, which other documents share.
 #[derive(Drop)]
@@ -431,6 +441,7 @@ impl<P: Prover> DocCheck<P> {
         requires short { length text ≤ TEXT_LIMIT }
         requires same { take first_changed self.old.text ≡ take first_changed text }
         requires stands { Stands P.meaning P.means table.old self.old }
+        ensures text { OnOk result (self.new.text ≡ text) }
         ensures check { OnOk result (self.new ≡ (taken (changed text self.old) table.old.rows).doc) }
         ensures rows { OnOk result (table.new ≡ with_rows table.old (taken (changed text self.old) table.old.rows).rows) }
         ensures stands { (prefix : ℕ → List Sentence) → Fits P.meaning P.means prefix table.old
@@ -532,7 +543,12 @@ impl<P: Prover> DocCheck<P> {
             self.finished.as_slice(),
         )?;
         let outline = self.outline(alloc, prover)?;
-        Ok(Report { diags, outline })
+        let spans = same_places(alloc, &self.spans)?;
+        Ok(Report {
+            diags,
+            outline,
+            spans,
+        })
     }
 }
 
@@ -612,6 +628,27 @@ fn common(text: &str, spans: &SpanList, other: &str, places: &SpanList, most: us
         }
     }
     both
+}
+
+/// Where the sentence of a number begins.
+fn next_from(spans: &SpanList, number: usize, len: usize) -> usize
+    requires within { number < length spans.now }
+    requires placed { (text : List ℕ) × (length text ≡ len) × All (IsSpanOf text) spans.now }
+    ensures from { result ≡ (span_of spans.now number).from }
+    ensures placed { result ≤ len }
+{
+    spans.as_slice()[number].from as usize
+}
+
+/// The same places once more.
+fn same_places(alloc: Global, spans: &SpanList) -> Result<SpanList, NoMem>
+    ensures { IfOk result (λ places. places ≡ spans.now) }
+{
+    let mut places = SpanList::new(alloc);
+    for span in spans.as_slice() {
+        places.push(*span)?;
+    }
+    Ok(places)
 }
 
 /// Where the sentence of a number begins; 0 where there is none.

@@ -3,12 +3,11 @@
 
 mod checking;
 mod diagnostics;
-pub mod document;
+mod document;
 mod finished;
-mod incremental;
 mod reporting;
 mod sentences;
 
-pub use checking::check_text;
+pub use checking::{CheckedText, check_text};
 pub use diagnostics::{AbsDiag, AbsDiagList, Report};
-pub use incremental::{Advance, DocCheck};
+pub use document::{Advance, DocCheck};
