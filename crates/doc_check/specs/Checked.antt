@@ -1,9 +1,8 @@
 -- A text that is checked to its end over a table of its own.
-use Rattle.std.specs.Prelude.{◌≡◌, ℕ, ◌+◌, ◌<◌, ◌≤◌, true, List, [], drop, slice_index_or, Contains}
+use Rattle.std.specs.Prelude.{◌≡◌, ℕ, ◌+◌, ◌<◌, ◌≤◌, true, List, drop, slice_index_or, Contains}
 use Rattle.sentence_split.specs.Sentences.{sentences}
 use Rattle.prover_iface.specs.Meanings.{Meanings}
 use Rattle.memo_table.specs.declared.slots.Entry.{Entry}
-use Rattle.memo_table.specs.declared.table.Kept.{Kept}
 use Rattle.memo_table.specs.Table.{Table}
 use Rattle.memo_table.specs.Fits.{sentence_of}
 use Rattle.doc_check.specs.Check.{sentence_at, span_of, count, costs}

@@ -103,10 +103,11 @@ fn run_next<P: Prover, C: Ledger>(
     ensures next { OnOk result (check.new ≡ with_number (done check.old + 1) check.old) }
     ensures work { Worked (cost_here P.means check.old) steps.old steps.new result }
 {
-    match check.advance(alloc, prover, table, COST_LIMIT, steps)? {
-        Advance::Finished { spent: _ } => Ok(()),
-        Advance::Ended => unreachable!(),
-        Advance::Interrupted => unreachable!(),
+    match check.advance(alloc, prover, table, COST_LIMIT, steps) {
+        Ok(Advance::Finished { spent: _ }) => Ok(()),
+        Ok(Advance::Ended) => unreachable!(),
+        Ok(Advance::Interrupted) => unreachable!(),
+        Err(error) => Err(error),
     }
 }
 
@@ -125,7 +126,10 @@ fn run_all<P: Prover, C: Ledger>(
     ensures work { Worked (cost_left P.means check.old) steps.old steps.new result }
 {
     while !check.is_ended() {
-        run_next(alloc, prover, check, table, steps)?;
+        match run_next(alloc, prover, check, table, steps) {
+            Ok(()) => {}
+            Err(error) => return Err(error),
+        }
     }
     Ok(())
 }
