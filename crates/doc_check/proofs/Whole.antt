@@ -18,8 +18,8 @@ use Rattle.memo_table.specs.Entries.{entry_of, entered}
 use Rattle.memo_table.specs.Table.{Table, table, with_rows}
 use Rattle.memo_table.specs.Fits.{sentence_of, Fits}
 use Rattle.memo_table.proofs.Keys.{key_same, key_refl, number_none}
-use Rattle.doc_check.specs.declared.document.Advance.{Advance}
-use Rattle.doc_check.specs.declared.document.Advance.TheVariants as advance
+use Rattle.doc_check.specs.declared.advance.Advance.{Advance}
+use Rattle.doc_check.specs.declared.advance.Advance.TheVariants as advance
 use Rattle.doc_check.specs.Check.{sentence_at, span_of, count, costs}
 use Rattle.doc_check.specs.Document.{Doc, doc, parts, state_at, done, all_done, last_of, next_of, next_key, state_here, with_number, Took, took, taken, IsTaken, same_sentence, kept_of, changed}
 use Rattle.doc_check.specs.Stands.{Follows, Moved, Runs, Advanced, cost_here}
@@ -223,16 +223,16 @@ kept_whole {M} d rows text e w is =
     let c : Doc = changed text d in
     let size : done c ≡ kept = length-take (min (done d) kept) d.numbers ∙ grind (arith, common_steps) in
     let same : (k : ℕ) → k < done c → get_or c.numbers k 0 ≡ k + 1 = λ k h.
-        let there : get_or c.numbers k 0 ≡ get_or d.numbers k 0 = grind (arith, common_steps) in
-        there ∙ w.own.numbers k (omega (arith, h, size, few)) in
+    let there : get_or c.numbers k 0 ≡ get_or d.numbers k 0 = grind (arith, common_steps) in
+    there ∙ w.own.numbers k (omega (arith, h, size, few)) in
     let last : last_of c.numbers ≡ kept = numbers_last c same ∙ size in
     let none : IsTaken c rows = λ left. sym (number_none (next_key c) rows (λ x there found.
-        let key : next_key c ≡ x.1.key = key_same (next_key c) x.1.key found in
-        let from : x.1.key.from ≡ kept = ap (λ k. k.from) (sym key) ∙ last in
-        let here : next_of c ≡ sentence_at text (span_of (sentences 0 0 text) kept) = ap (λ k. sentence_at text (span_of (sentences 0 0 text) k)) size in
-        let old : next_of c ≡ sentence_at d.text (span_of (sentences 0 0 d.text) kept) =
-        ap sentence_of key ∙ w.own.own x there ∙ ap (λ k. sentence_at d.text (span_of (sentences 0 0 d.text) k)) from in
-        differs_there d.text text kept refl (omega (arith, w.own.earlier x there, from, w.all)) (omega (arith, unfinished c left, size)) (sym old ∙ here))) in
+    let key : next_key c ≡ x.1.key = key_same (next_key c) x.1.key found in
+    let from : x.1.key.from ≡ kept = ap (λ k. k.from) (sym key) ∙ last in
+    let here : next_of c ≡ sentence_at text (span_of (sentences 0 0 text) kept) = ap (λ k. sentence_at text (span_of (sentences 0 0 text) k)) size in
+    let old : next_of c ≡ sentence_at d.text (span_of (sentences 0 0 d.text) kept) =
+    ap sentence_of key ∙ w.own.own x there ∙ ap (λ k. sentence_at d.text (span_of (sentences 0 0 d.text) k)) from in
+    differs_there d.text text kept refl (omega (arith, w.own.earlier x there, from, w.all)) (omega (arith, unfinished c left, size)) (sym old ∙ here))) in
     ap (λ x. done x.doc) (is ∙ none_taken c rows none) ∙ size
 
 pub edit_taken : {S : Type 0} (t u : Table S) (c e : Doc) → e ≡ (taken c t.rows).doc → u ≡ with_rows t (taken c t.rows).rows → took e u.rows ≡ taken c t.rows

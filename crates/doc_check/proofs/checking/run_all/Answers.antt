@@ -9,7 +9,7 @@ loop-alloc-preserved g c =
       c.in-Ok.ensures.way,
       ap (λ d. d.text) c.in-Ok.ensures.next ∙ h.1,
       left_on p.means c.args.steps.now c.loop-alloc.steps c.run_next.new.steps c.args.check.now c.loop-alloc.check c.run_next.new.check _
-      c.in-Ok.ensures.next (search rules) h.2 c.in-Ok.ensures.work,
+          c.in-Ok.ensures.next (search rules) h.2 c.in-Ok.ensures.work,
       omega (arith, h.3, c.in-Ok.ensures.work),
     )
 
