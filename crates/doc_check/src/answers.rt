@@ -1,5 +1,5 @@
 //! What is told of a document.
-ghost use Rattle.std.specs.Prelude.{◌≡◌, ℕ, ◌<◌, ◌≤◌, List, All, true, false, length, None, Some, IfOk};
+ghost use Rattle.std.specs.Prelude.{◌≡◌, ℕ, ◌<◌, ◌≤◌, List, All, true, false, length, IfOk};
 ghost use Rattle.sentence_split.specs.Sentences.{sentences};
 ghost use Rattle.sentence_split.specs.Within.{IsSpanOf};
 ghost use Rattle.doc_check.specs.Check.{span_of, count, checked, goals_behind, started, IsPlaced};

@@ -1,5 +1,5 @@
 //! A document takes the sentences that its table has kept.
-ghost use Rattle.std.specs.Prelude.{◌≡◌, ℕ, ◌≤◌, [], List, true, false, length, None, Some, IfOk, OnOk, OnErr};
+ghost use Rattle.std.specs.Prelude.{◌≡◌, ℕ, ◌≤◌, [], List, false, length, IfOk, OnOk, OnErr};
 ghost use Rattle.base_core.specs.declared.limits.TheConstants.{TEXT_LIMIT};
 ghost use Rattle.prover_iface.specs.Sentences.{Sentence};
 ghost use Rattle.memo_table.specs.Table.{with_rows};
