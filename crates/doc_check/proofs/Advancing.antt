@@ -11,7 +11,7 @@ use Rattle.memo_table.specs.declared.key.Key.{Key}
 use Rattle.memo_table.specs.declared.table.Kept.{Kept}
 use Rattle.memo_table.specs.Table.{Table, with_rows, with_kept}
 use Rattle.memo_table.specs.Fits.{Fits}
-use Rattle.doc_check.specs.declared.incremental.Advance.{Advance}
+use Rattle.doc_check.specs.declared.advance.Advance.{Advance}
 use Rattle.doc_check.specs.Document.{Doc, doc, parts, done, next_of, next_key, state_here, took, taken, same_sentence, changed}
 use Rattle.doc_check.specs.Stands.{Follows, Stands, Moved, IsKept, Runs, Advanced, cost_here}
 use Rattle.doc_check.proofs.Trail.{first_same}

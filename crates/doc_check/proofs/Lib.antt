@@ -5,3 +5,4 @@ pub mod Taking
 pub mod Shared
 pub mod Advancing
 pub mod Telling
+pub mod Whole

@@ -54,7 +54,7 @@ some_of : {X : Type 0} (o : Option X) → IsSome o → (x : X) × (o ≡ Some x)
 some_of None h = cc
 some_of (Some x) h = (x, refl)
 
-last_at : (numbers : List ℕ) (n : ℕ) → length numbers ≡ suc n → last_of numbers ≡ get_or numbers n 0
+pub last_at : (numbers : List ℕ) (n : ℕ) → length numbers ≡ suc n → last_of numbers ≡ get_or numbers n 0
 last_at numbers n e = ap (λ k. get_or (0 ∷ numbers) k 0) e
 
 -- what the last number stands for
@@ -71,13 +71,13 @@ pub last_stands : (prefix : ℕ → List Sentence) (given : ℕ) (d : Doc) → p
 last_stands prefix given d none f = last_by prefix given d (done d) refl none f
 
 -- a further number that stands for one sentence more
-number_before : (d : Doc) (n k : ℕ) → k < done d → get_or (with_number n d).numbers k 0 ≡ get_or d.numbers k 0
+pub number_before : (d : Doc) (n k : ℕ) → k < done d → get_or (with_number n d).numbers k 0 ≡ get_or d.numbers k 0
 number_before d n k h = grind (arith, common_steps)
 
-number_last : (d : Doc) (n k : ℕ) → k ≡ done d → get_or (with_number n d).numbers k 0 ≡ n
+pub number_last : (d : Doc) (n k : ℕ) → k ≡ done d → get_or (with_number n d).numbers k 0 ≡ n
 number_last d n k h = grind (arith, common_steps)
 
-either : (k n : ℕ) → k < n + 1 → (k < n) ⊎ (k ≡ n)
+pub either : (k n : ℕ) → k < n + 1 → (k < n) ⊎ (k ≡ n)
 either k n h = by (nat_eq k n) refl
   where
     by : (b : Bool) → nat_eq k n ≡ b → (k < n) ⊎ (k ≡ n)

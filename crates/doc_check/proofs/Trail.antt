@@ -19,7 +19,7 @@ use Rattle.doc_check.specs.Check.{sentence_at, span_of, count}
 use Rattle.doc_check.specs.Document.{Doc, doc, parts, first_parts, state_at, done, all_done, next_of, state_here, same_sentence, changed}
 use Rattle.doc_check.specs.Stands.{trail, IsDoc}
 
-nowhere : Span
+pub nowhere : Span
 nowhere = record { from = 0; to = 0; kind = Plain }
 
 -- one sentence more
@@ -140,7 +140,7 @@ state_seen means of number text spans first items old k d seen h most some =
 parts_cons : (s t : Sentence) (ss ts : List Sentence) (n : ℕ) → s ≡ t → take n ss ≡ take n ts → take (suc n) (s ∷ ss) ≡ take (suc n) (t ∷ ts)
 parts_cons s t ss ts n e f = ap (λ x. x ∷ take n ss) e ∙ ap (λ xs. t ∷ xs) f
 
-key_from : Sentence → Key
+pub key_from : Sentence → Key
 key_from s = record { from = 0; kind = s.kind; text = s.text }
 
 same_is : (s t : Sentence) → same_sentence s t ≡ true → s ≡ t

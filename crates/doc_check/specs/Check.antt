@@ -67,6 +67,7 @@ abbrev pub report_of : {M : Type 0} → Meanings M → List ℕ → List Span �
 report_of means text spans = record {
   diags = told means means.first text spans ++ left_open (means.opened (state_after means text spans)) spans;
   outline = means.outline_of (state_after means text spans);
+  spans = spans;
 }
 
 -- the report of a whole text
@@ -77,6 +78,15 @@ checked means text = report_of means text (sentences 0 0 text)
 abbrev pub cost_at : {M : Type 0} → Meanings M → List ℕ → ℕ → ℕ
 cost_at means text number =
     means.cost (state_after means text (take number (sentences 0 0 text))) (sentence_at text (span_of (sentences 0 0 text) number))
+
+-- what sentences cost, one after another, from a state on
+abbrev pub costs : {M : Type 0} → Meanings M → M → List Sentence → ℕ
+costs means m [] = 0
+costs means m (s ∷ ss) = means.cost m s + costs means (means.after m s) ss
+
+-- what checking a whole text costs: the prover's first state, and each sentence
+abbrev pub whole_cost : {M : Type 0} → Meanings M → List ℕ → ℕ
+whole_cost means text = means.first_cost + costs means means.first (map (sentence_at text) (sentences 0 0 text))
 
 -- the goals behind the first so many sentences of a text
 abbrev pub goals_behind : {M : Type 0} → Meanings M → List ℕ → ℕ → Option GoalsView

@@ -95,6 +95,10 @@ module _ {M : Type 0} where
 abbrev pub same_sentence : Sentence → Sentence → Bool
 same_sentence s t = kinds.ghosts.eq s.kind t.kind && bytes_eq s.text t.text
 
+-- how many sentences two texts begin with
+abbrev pub kept_of : List ℕ → List ℕ → ℕ
+kept_of text other = common_prefix_len same_sentence (parts text) (parts other)
+
 -- another text: the sentences stay finished that both texts begin with
 abbrev pub changed : List ℕ → Doc → Doc
-changed text d = doc text (take (min (done d) (common_prefix_len same_sentence (parts d.text) (parts text))) d.numbers)
+changed text d = doc text (take (min (done d) (kept_of d.text text)) d.numbers)

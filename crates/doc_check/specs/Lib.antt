@@ -1,4 +1,4 @@
 pub mod Check
-pub mod Incremental
 pub mod Document
 pub mod Stands
+pub mod Checked

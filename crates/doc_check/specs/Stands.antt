@@ -13,8 +13,8 @@ use Rattle.memo_table.specs.declared.table.Kept.{Kept}
 use Rattle.memo_table.specs.Entries.{made_of}
 use Rattle.memo_table.specs.Table.{Table, with_rows, with_kept}
 use Rattle.memo_table.specs.Fits.{IsMade, Fits}
-use Rattle.doc_check.specs.declared.incremental.Advance.{Advance}
-use Rattle.doc_check.specs.declared.incremental.Advance.TheVariants as advance
+use Rattle.doc_check.specs.declared.advance.Advance.{Advance}
+use Rattle.doc_check.specs.declared.advance.Advance.TheVariants as advance
 use Rattle.doc_check.specs.Check.{count}
 use Rattle.doc_check.specs.Document.{Doc, first_parts, done, all_done, next_of, next_key, state_here, with_number, taken}
 

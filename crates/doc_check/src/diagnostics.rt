@@ -1,6 +1,7 @@
 //! What is told of a text.
 use base_core::{Duplicate, List, NoMem, Text};
 use prover_iface::OutlineList;
+use sentence_split::SpanList;
 use std::alloc::Global;
 
 /// What is told of a text to its author. Offsets are bytes from the text's start.
@@ -34,4 +35,6 @@ pub type AbsDiagList = List<AbsDiag>;
 pub struct Report {
     pub diags: AbsDiagList,
     pub outline: OutlineList,
+    /// The places of its sentences, in order.
+    pub spans: SpanList,
 }

@@ -1,5 +1,5 @@
 //! Finished sentences, by their numbers in a table of finished sentences.
-ghost use Rattle.std.specs.Prelude.{◌≡◌, ◌++◌, drop, IfOk};
+ghost use Rattle.std.specs.Prelude.{◌≡◌, IfOk};
 
 use base_core::NoMem;
 use memo_table::Kept;

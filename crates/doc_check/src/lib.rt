@@ -1,14 +1,18 @@
 //! Checks the sentences of a text one after another, by any prover.
 #![tactic(auto)]
 
+mod advance;
+mod answers;
+mod change;
 mod checking;
 mod diagnostics;
-pub mod document;
+mod document;
 mod finished;
-mod incremental;
+mod kept;
 mod reporting;
 mod sentences;
 
-pub use checking::check_text;
+pub use advance::Advance;
+pub use checking::{CheckedText, check_text};
 pub use diagnostics::{AbsDiag, AbsDiagList, Report};
-pub use incremental::{Advance, DocCheck};
+pub use document::DocCheck;

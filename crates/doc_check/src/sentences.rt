@@ -1,18 +1,13 @@
 //! One sentence at its place in a text.
 ghost use Rattle.std.specs.Prelude.{◌≡◌, ◌+◌, ◌^◌, ◌<◌, ◌≤◌, ◌++◌, All, map, length, IfOk, IfSome, OnOk};
-ghost use Rattle.base_core.specs.declared.limits.TheConstants.{TEXT_LIMIT};
-ghost use Rattle.sentence_split.specs.Within.{IsSpanOf};
-ghost use Rattle.prover_iface.specs.Exec.{Works};
-ghost use Rattle.doc_check.specs.Check.{sentence_at, shifted, told_at, whole_error, left_open, IsPlaced};
-ghost use Rattle.doc_check.specs.Incremental.{RunsWithin};
+ghost use Rattle.doc_check.specs.Check.{shifted, whole_error, left_open};
 
 use crate::{AbsDiag, AbsDiagList};
 use base_core::refusal_codes::{PROOF_NOT_ENDED, refusal_text};
-use base_core::{NoMem, Steps, Text};
-use prover_iface::{Outcome, Prover, RelDiag};
+use base_core::{NoMem, Text};
+use prover_iface::RelDiag;
 use sentence_split::Span;
 use std::alloc::Global;
-use std::sync::ledger::Ledger;
 
 /// Adds what is told of a sentence, at its place in the text.
 pub(crate) fn add_shifted(
@@ -36,41 +31,6 @@ pub(crate) fn add_shifted(
         })?;
     }
     Ok(())
-}
-
-/// Runs the sentence at a place of a text, where it costs at most these units: the state behind it, and
-/// what it cost.
-pub(crate) fn run_within<P: Prover, C: Ledger>(
-    alloc: Global,
-    prover: &P,
-    state: &P::State,
-    text: &str,
-    span: &Span,
-    units: u32,
-    diags: &mut AbsDiagList,
-    steps: &mut Steps<C>,
-) -> Result<Option<(P::State, u32)>, NoMem>
-    requires short { length text.now ≤ TEXT_LIMIT }
-    requires span { IsSpanOf text.now span.now }
-    ensures runs { IfOk result
-        (RunsWithin P.meaning P.means (P.meaning state.now) (sentence_at text.now span.now) units) }
-    ensures diags { let told = told_at P.means (P.meaning state.now) text.now span.now in
-        IfOk result (λ r. IfSome r (λ _. diags.new ≡ diags.old ++ told)) }
-    ensures work { let cost = P.means.cost (P.meaning state.now) (sentence_at text.now span.now) in
-        Works cost units steps.old steps.new result }
-{
-    let sentence = &text[span.from as usize..span.to as usize];
-    match prover.exec(alloc, state, span.kind, sentence, units, steps)? {
-        Outcome::Done {
-            state,
-            diags: given,
-            cost,
-        } => {
-            add_shifted(alloc, diags, given.as_slice(), span.from, sentence.len())?;
-            Ok(Some((state, cost)))
-        }
-        Outcome::Interrupted => Ok(None),
-    }
 }
 
 /// A refusal at a whole sentence.

@@ -9,7 +9,7 @@ ghost use Rattle.goals_query.specs.Goals.{hyp_from, hyp_data, goal_data, goal_li
 
 use crate::places::{document_value, position_value};
 use base_core::{NoMem, Position};
-use doc_check::document::DocCheck;
+use doc_check::DocCheck;
 use prover_iface::{GoalView, GoalsView, HypView, Prover, ViewList};
 use serde_json::{Map, Value, json, put};
 use std::alloc::Global;

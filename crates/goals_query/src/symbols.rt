@@ -10,7 +10,7 @@ ghost use Rattle.goals_query.specs.Symbols.{kind_number, detail, symbol_at, symb
 
 use crate::places::range_value;
 use base_core::NoMem;
-use doc_check::document::DocCheck;
+use doc_check::DocCheck;
 use prover_iface::{ItemKind, OutlineItem, Prover, add_listed_axioms};
 use serde_json::{Map, Value, put};
 use std::alloc::{AllocError, Global};

@@ -7,8 +7,8 @@ use Rattle.prover_iface.specs.Sentences.{Sentence}
 use Rattle.prover_iface.specs.Meanings.{Meanings}
 use Rattle.memo_table.specs.Table.{Table, with_rows}
 use Rattle.memo_table.proofs.Plain.{plain_entered}
-use Rattle.doc_check.specs.declared.incremental.Advance.{Advance}
-use Rattle.doc_check.specs.declared.incremental.Advance.TheVariants as advance
+use Rattle.doc_check.specs.declared.advance.Advance.{Advance}
+use Rattle.doc_check.specs.declared.advance.Advance.TheVariants as advance
 use Rattle.doc_check.specs.Check.{count, views, cost_at}
 use Rattle.doc_check.specs.Document.{Doc, done, all_done, next_key, next_of, state_here, taken}
 use Rattle.doc_check.specs.Stands.{IsKept, Runs, Advanced, cost_here}

@@ -19,7 +19,7 @@ use crate::open_document::{NewText, OpenDocument};
 use crate::phase::Phase;
 use crate::waiting::{Choice, Waiting, drop_chosen};
 use base_core::{Bytes, NoMem, Steps, Text};
-use doc_check::document::DocCheck;
+use doc_check::DocCheck;
 use memo_table::MemoTable;
 use prover_iface::Prover;
 use std::alloc::Global;

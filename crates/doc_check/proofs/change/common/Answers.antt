@@ -1,6 +1,6 @@
 use Rattle.std.proofs.Common.{rules, length, sym, ap, ◌∙◌, arith}
 use Rattle.doc_check.proofs.Shared.{differs, goes_on, none_differs}
-use Rattle.doc_check.proofs.document.common.Goals as goal
+use Rattle.doc_check.proofs.change.common.Goals as goal
 
 pub returns-then-not-is_same : goal.returns-then-not-is_same
 returns-then-not-is_same c =
