@@ -1,13 +1,12 @@
 -- Sessions by their status, and one that could not begin.
-use Rattle.std.proofs.Common.{◌≡◌, ◌≢◌, ◌⊎◌, ℕ, ◌+◌, ◌≤◌, inl, inr, Bool, Option, None, Some, Result, Ok, Err, List, [], refl, ap, sym, subst, ◌∙◌, arith, lit<}
+use Rattle.std.proofs.Common.{◌≡◌, ◌≢◌, ◌⊎◌, ℕ, ◌+◌, ◌≤◌, inl, inr, Bool, Option, Some, Result, Ok, Err, List, [], refl, ap, sym, subst, ◌∙◌, arith}
 use Rattle.base_core.specs.declared.writing.Halt.{Halt}
 use Rattle.base_core.specs.declared.writing.Halt.TheVariants.{NoMem, SinkFailed}
 use Rattle.base_core.specs.Writes.{IsCalmWrite}
 use Rattle.base_core.specs.Link.{Poll}
-use Rattle.base_core.specs.Sink.{appended}
 use Rattle.base_core.proofs.Begun.{appended-nil}
 use Rattle.prover_iface.specs.Meanings.{Meanings}
-use Rattle.doc_check.specs.Check.{Views, views}
+use Rattle.doc_check.specs.Check.{views}
 use Rattle.sched_core.specs.Session.{Session, fresh}
 use Rattle.sched_core.specs.declared.events.Exit.TheVariants.{Clean, Early}
 use Rattle.lsp_session.specs.declared.endings.Ending.{Ending}
@@ -16,7 +15,7 @@ use Rattle.lsp_session.specs.Rules.{Rules, Counted, counted, counting}
 use Rattle.lsp_session.specs.Calls.{IsCalmEnd}
 use Rattle.lsp_session.specs.Serves.{ServesFrom, ServesWhole, IsFront}
 use Rattle.lsp_session.specs.Status.{status_of, result_status}
-use Rattle.lsp_session.specs.Served.{rules, begun, IsServed, IsFrontOf, SessionServes}
+use Rattle.lsp_session.specs.Served.{rules, begun, SessionServes}
 use Rattle.lsp_session.proofs.Told.{serves_told, whole_told}
 
 not_memory : {n : ℕ} {P : Type 0} → n ≡ 4 → n ≢ 4 → P

@@ -1,5 +1,5 @@
 -- Steps, and the bytes they add.
-use Rattle.std.proofs.Common.{◌≡◌, ℕ, ◌≤◌, ◌+◌, arith, Option, None, Some, Result, Ok, Err, List, [], ◌∷◌, ◌++◌, refl, sym, ◌∙◌, ap, subst}
+use Rattle.std.proofs.Common.{◌≡◌, ℕ, ◌≤◌, arith, Option, None, Some, Result, Ok, Err, List, [], ◌∷◌, ◌++◌, refl, sym, ◌∙◌, ap, subst}
 use Rattle.base_core.specs.Sink.{appended, Begins}
 use Rattle.base_core.proofs.Begun.{appended-appended, appended-nil}
 use Rattle.rpc_frames.specs.Frames as spec
@@ -12,7 +12,7 @@ use Rattle.sched_core.specs.declared.events.Event.{Event}
 use Rattle.sched_core.specs.declared.events.Event.TheVariants as event
 use Rattle.sched_core.specs.Step.{Step}
 use Rattle.lsp_session.specs.Rules.{Rules, Counted, counting, said}
-use Rattle.lsp_session.specs.Run.{Progress, unless_exit, after_step, at_end, each_heard, all_heard, fault_bytes}
+use Rattle.lsp_session.specs.Run.{Progress, unless_exit, after_step, at_end, each_heard, fault_bytes}
 use Rattle.lsp_session.specs.Calls.{Extends, told_at, work_at, IsCut, Drains, Goes, heard_of}
 
 pub extends_none : (told : Option (List ℕ)) → Extends told told

@@ -1,5 +1,5 @@
 -- How the steps of a session move its phase, and where they end it.
-use Rattle.std.proofs.Common.{◌≡◌, ℕ, ℤ, ◌||◌, Bool, true, false, Option, None, Some, Result, Ok, Err, List, refl, ◌∙◌, if◌then◌else◌, is_some, int_le, nat_le, length, position}
+use Rattle.std.proofs.Common.{◌≡◌, ℕ, ℤ, Bool, true, false, Option, None, Some, Result, Ok, Err, List, refl, ◌∙◌, if◌then◌else◌, is_some, int_le, nat_le, length, position}
 use Rattle.base_core.specs.declared.limits.TheConstants.{DOCUMENT_LIMIT, WAITING_LIMIT}
 use Rattle.base_core.specs.declared.places.Change.{Change}
 use Rattle.lsp_types.specs.declared.messages.Id.{Id}
@@ -24,9 +24,9 @@ use Rattle.sched_core.specs.declared.waiting.Waiting.{Waiting}
 use Rattle.sched_core.specs.declared.waiting.Question.TheVariants.{Outline, Goals as GoalsAt}
 use Rattle.sched_core.specs.Session.{Session, document_at, place_of, first_unended}
 use Rattle.sched_core.specs.Waiting.{is_ready, same_id, cancel_at, wait_for, ask_at, at_open, ask_outline_at, ask_goals_at, request_for, wanted_at}
-use Rattle.sched_core.specs.Documents.{at_known, is_too_long, text_behind, did_open, renew_by, change_at, close_at}
+use Rattle.sched_core.specs.Documents.{at_known, is_too_long, text_behind, did_open, renew_by, change_at}
 use Rattle.sched_core.specs.Work.{grant_at, run_first, waits, idle}
-use Rattle.sched_core.specs.Messages.{by_phase, request_fresh, request_running, refuse_request, request, notify, notify_exit, notify_running, refuse_body, hear}
+use Rattle.sched_core.specs.Messages.{by_phase, request_fresh, request_running, refuse_request, notify_exit, notify_running, refuse_body, hear}
 use Rattle.lsp_session.specs.Rules.{Rules, Counted, counting}
 use Rattle.lsp_session.specs.Served.{rules}
 use Rattle.lsp_session.specs.Causes.{Message, phase_after_call, phase_after, is_exit, exit_in}

@@ -3,7 +3,7 @@ use Rattle.std.proofs.Common.{◌≡◌, ℕ, ◌+◌, ◌<◌, ◌≤◌, Bool,
 use Rattle.std.proofs.lemmas.Bool.Decides.{nat_tests}
 use Rattle.std.proofs.lemmas.List.{length-take-le}
 use Rattle.base_core.specs.Link.{Seen, Bytes, Nothing, Poll, poll, polled}
-use Rattle.base_core.specs.Sink.{appended, Begins}
+use Rattle.base_core.specs.Sink.{appended}
 use Rattle.rpc_frames.specs.Frames as spec
 use Rattle.lsp_types.specs.Decoding.{decoded}
 use Rattle.sched_core.specs.declared.events.Exit.{Exit}
@@ -16,8 +16,8 @@ use Rattle.lsp_session.specs.declared.turns.Turn.TheVariants as turn
 use Rattle.sched_core.specs.declared.events.Event.TheVariants as event
 use Rattle.lsp_session.specs.Rules.{Rules, Counted, said}
 use Rattle.lsp_session.specs.Run.{Progress, Going, Gone, unless_exit, after_step, at_end, each_heard, all_heard, agrees, most_asked, brought, play}
-use Rattle.lsp_session.specs.Calls.{IsCut, Drains, Turns, IsCalmTurn, after_bytes, IsRun, OnePoll, heard_of}
-use Rattle.lsp_session.proofs.Heard.{extends_none, step_cut, Mounts, heard_mounts, Begun}
+use Rattle.lsp_session.specs.Calls.{IsCut, Drains, Turns, IsCalmTurn, after_bytes, IsRun, OnePoll}
+use Rattle.lsp_session.proofs.Heard.{extends_none, step_cut, Mounts, Begun}
 
 agrees_same : (b : Bool) → agrees b b ≡ true
 agrees_same true = refl

@@ -1,5 +1,5 @@
 -- What a session is held to.
-use Rattle.std.specs.Prelude.{◌≡◌, ℕ, ◌≤◌, Bool, Option, None, Some, Result, Ok, Err, List, [], ◌∷◌, ◌++◌, length}
+use Rattle.std.specs.Prelude.{◌≡◌, ℕ, ◌≤◌, Option, Some, Result, Ok, Err, List, [], ◌∷◌, ◌++◌, length}
 use Rattle.std.specs.Option.{IsSomeAnd}
 use Rattle.base_core.specs.Link.{Poll}
 use Rattle.base_core.specs.Sink.{appended}

@@ -1,6 +1,6 @@
 use Rattle.std.proofs.Common.{Ok, Err, subst, sym, ◌∙◌, ap}
 use Rattle.base_core.specs.Status.{number_of}
-use Rattle.lsp_session.specs.Status.{result_status, IsStatus}
+use Rattle.lsp_session.specs.Status.{IsStatus}
 use Rattle.lsp_session.proofs.Statuses.{result_status-known}
 use Rattle.lsp_session.proofs.endings.number.Goals as goal
 
