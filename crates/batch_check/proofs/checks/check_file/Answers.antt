@@ -1,6 +1,6 @@
 use Rattle.doc_check.specs.Check.{checked}
-use Rattle.fleche_main.proofs.Texts.{read_told}
-use Rattle.fleche_main.proofs.checks.check_file.Goals as goal
+use Rattle.batch_check.proofs.Texts.{read_told}
+use Rattle.batch_check.proofs.checks.check_file.Goals as goal
 
 pub returns-in-Ok-clause-told : goal.returns-in-Ok-clause-told
 returns-in-Ok-clause-told g c =

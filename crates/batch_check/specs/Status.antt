@@ -4,8 +4,8 @@ use Rattle.base_core.specs.declared.status.Status.{Status}
 use Rattle.base_core.specs.declared.status.Status.TheVariants as status
 use Rattle.base_core.specs.declared.writing.Halt.{Halt}
 use Rattle.base_core.specs.Status.{number_of, status_of_halt}
-use Rattle.fleche_main.specs.declared.endings.Ending.{Ending}
-use Rattle.fleche_main.specs.declared.endings.Ending.TheVariants.{Clean, Unclean, NotRead, NotText}
+use Rattle.batch_check.specs.declared.endings.Ending.{Ending}
+use Rattle.batch_check.specs.declared.endings.Ending.TheVariants.{Clean, Unclean, NotRead, NotText}
 
 -- the status of each ending
 abbrev pub kind_of : Ending → Status

@@ -1,6 +1,6 @@
 //! How the check of a file ends.
 ghost use Rattle.std.specs.Prelude.{◌≡◌};
-ghost use Rattle.fleche_main.specs.Status.{kind_of, result_status, IsStatus};
+ghost use Rattle.batch_check.specs.Status.{kind_of, result_status, IsStatus};
 
 use base_core::{Halt, Status};
 

@@ -1,8 +1,8 @@
 use Rattle.std.proofs.Common.{ℕ, List, ◌∙◌, ap}
 use Rattle.doc_check.specs.Check.{checked}
 use Rattle.utf16_doc.specs.Indexed.{Document}
-use Rattle.fleche_main.proofs.Texts.{not_text, is_text}
-use Rattle.fleche_main.proofs.checks.check_bytes.Goals as goal
+use Rattle.batch_check.proofs.Texts.{not_text, is_text}
+use Rattle.batch_check.proofs.checks.check_bytes.Goals as goal
 
 pub returns-in_default-clause-told : goal.returns-in_default-clause-told
 returns-in_default-clause-told g c =

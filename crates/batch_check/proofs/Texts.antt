@@ -9,11 +9,11 @@ use Rattle.base_core.specs.declared.limits.TheConstants.{TEXT_LIMIT}
 use Rattle.base_core.specs.Files.{file_at, IsReadOf}
 use Rattle.base_core.proofs.Begun.{appended-nil, begins_none}
 use Rattle.doc_check.specs.declared.diagnostics.Report.{Report}
-use Rattle.fleche_main.specs.declared.endings.Ending.{Ending}
-use Rattle.fleche_main.specs.declared.endings.Ending.TheVariants.{NotText}
+use Rattle.batch_check.specs.declared.endings.Ending.{Ending}
+use Rattle.batch_check.specs.declared.endings.Ending.TheVariants.{NotText}
 use Rattle.base_core.specs.declared.writing.Halt.{Halt}
-use Rattle.fleche_main.specs.Outcome.{Outcome, text_outcome, bytes_outcome, file_outcome, no_report}
-use Rattle.fleche_main.specs.Run.{EndsAs}
+use Rattle.batch_check.specs.Outcome.{Outcome, text_outcome, bytes_outcome, file_outcome, no_report}
+use Rattle.batch_check.specs.Run.{EndsAs}
 
 test_fails : (t : Bool) (bytes : List ℕ) → is_utf8 bytes ≡ t → (IsUtf8 bytes → ⊥) → is_utf8 bytes ≡ false
 test_fails true bytes e nope = absurd (nope (IsUtf8-from_is_utf8 bytes e))

@@ -1,7 +1,7 @@
 use Rattle.std.proofs.Common.{◌++◌, string_bytes, refl, ◌∙◌, ap}
-use Rattle.fleche_main.specs.Reports.{diag_line, diag_lines}
-use Rattle.fleche_main.proofs.Lines.{lines_more}
-use Rattle.fleche_main.proofs.reports.add_diags.Goals as goal
+use Rattle.batch_check.specs.Reports.{diag_line, diag_lines}
+use Rattle.batch_check.proofs.Lines.{lines_more}
+use Rattle.batch_check.proofs.reports.add_diags.Goals as goal
 
 pub loop-diag-preserved : goal.loop-diag-preserved
 loop-diag-preserved c =

@@ -2,8 +2,8 @@
 ghost use Rattle.std.specs.Prelude.{◌≡◌, ◌==◌, ◌++◌, ◌+◌, ◌<◌, ◌≤◌, All, IfOk, OnOk, length, string_bytes};
 ghost use Rattle.utf16_doc.specs.declared.encoding.Encoding.TheVariants.{Utf16};
 ghost use Rattle.doc_check.specs.Check.{IsPlaced};
-ghost use Rattle.fleche_main.specs.Reports.{severity_word, diag_line, diag_lines, kind_word, item_line, item_lines};
-ghost use Rattle.fleche_main.specs.Reports.{is_admitted, error_count, admission_count, end_line, file_report};
+ghost use Rattle.batch_check.specs.Reports.{severity_word, diag_line, diag_lines, kind_word, item_line, item_lines};
+ghost use Rattle.batch_check.specs.Reports.{is_admitted, error_count, admission_count, end_line, file_report};
 
 use doc_check::{AbsDiag, Report};
 use prover_iface::{ItemKind, OutlineItem, add_listed_axioms};

@@ -1,10 +1,10 @@
 -- A run answers no other status.
 use Rattle.std.proofs.Common.{Result, Ok, Err, refl, lit<}
-use Rattle.fleche_main.specs.declared.endings.Ending.{Ending}
-use Rattle.fleche_main.specs.declared.endings.Ending.TheVariants.{Clean, Unclean, NotRead, NotText}
+use Rattle.batch_check.specs.declared.endings.Ending.{Ending}
+use Rattle.batch_check.specs.declared.endings.Ending.TheVariants.{Clean, Unclean, NotRead, NotText}
 use Rattle.base_core.specs.declared.writing.Halt.{Halt}
 use Rattle.base_core.specs.declared.writing.Halt.TheVariants.{NoMem, SinkFailed}
-use Rattle.fleche_main.specs.Status.{result_status, IsStatus}
+use Rattle.batch_check.specs.Status.{result_status, IsStatus}
 
 pub result_status-known : (result : Result Ending Halt) → IsStatus (result_status result)
 result_status-known (Ok Clean) = (0, lit< tt, refl)

@@ -1,8 +1,8 @@
 use Rattle.std.proofs.Common.{Ok, Err, subst, sym, ◌∙◌, ap}
 use Rattle.base_core.specs.Status.{number_of}
-use Rattle.fleche_main.specs.Status.{result_status, IsStatus}
-use Rattle.fleche_main.proofs.Statuses.{result_status-known}
-use Rattle.fleche_main.proofs.endings.number.Goals as goal
+use Rattle.batch_check.specs.Status.{IsStatus}
+use Rattle.batch_check.proofs.Statuses.{result_status-known}
+use Rattle.batch_check.proofs.endings.number.Goals as goal
 
 pub returns-in-Ok-clause-known : goal.returns-in-Ok-clause-known
 returns-in-Ok-clause-known c =
