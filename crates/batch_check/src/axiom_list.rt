@@ -3,7 +3,7 @@ ghost use Rattle.std.specs.Prelude.{◌≡◌, ◌++◌, [], fold, IfOk, OnOk, c
 ghost use Rattle.prover_iface.specs.Listings.{spaced};
 ghost use Rattle.batch_check.specs.Observers.{with_axioms, axioms_line};
 
-use crate::digests::{DigestList, FileDigest, note_names};
+use crate::digests::{FileDigest, note_names};
 use crate::observers::Observer;
 use base_core::{Bytes, Duplicate, List, NoMem, Text};
 use indexmap::IndexSet;
@@ -12,16 +12,16 @@ use std::alloc::{AllocError, Global};
 /// The observer named `axioms`.
 #[derive(Debug, Drop)]
 pub struct AxiomList {
-    shown: DigestList,
+    shown: Vec<FileDigest>,
 }
 
 impl AxiomList {
     /// It was shown nothing yet.
     pub fn new(alloc: Global) -> AxiomList
-        ensures { result.shown ≡ [] }
+        ensures { result.shown.items ≡ [] }
     {
         AxiomList {
-            shown: DigestList::new(alloc),
+            shown: Vec::new(alloc),
         }
     }
 }
@@ -65,9 +65,9 @@ fn axioms_line(alloc: Global, digests: &[FileDigest]) -> Result<String, NoMem>
 }
 
 impl Observer for AxiomList {
-    ghost shown = { λ list. list.shown };
+    ghost shown = { λ list. list.shown.items };
 
-    ghost told = { λ list. axioms_line list.shown };
+    ghost told = { λ list. axioms_line list.shown.items };
 
     ghost title = { λ list. codes "axioms" };
 
@@ -76,7 +76,8 @@ impl Observer for AxiomList {
     }
 
     fn finished(&mut self, alloc: Global, digest: &FileDigest) -> Result<(), NoMem> {
-        self.shown.push(digest.duplicate(alloc)?)
+        self.shown.push(digest.duplicate(alloc)?)?;
+        Ok(())
     }
 
     fn summary(&self, alloc: Global) -> Result<Bytes, NoMem> {

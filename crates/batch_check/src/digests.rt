@@ -4,7 +4,7 @@ ghost use Rattle.prover_iface.specs.Listings.{lists_axioms};
 ghost use Rattle.batch_check.specs.Digests.{with_names, with_item, outline_axioms, digest_of, is_clean};
 
 use crate::reports::{admission_count, error_count};
-use base_core::{Duplicate, List, NoMem, Text, TextList};
+use base_core::{Duplicate, NoMem, Text, TextList};
 use doc_check::Report;
 use indexmap::IndexSet;
 use prover_iface::{ItemKind, OutlineItem};
@@ -19,9 +19,6 @@ pub struct FileDigest {
     /// The axioms in the brackets of its outline, each once, in the order in which they first appear.
     pub axioms: TextList,
 }
-
-/// Digests in order.
-pub type DigestList = List<FileDigest>;
 
 impl Duplicate for FileDigest {
     fn duplicate(&self, alloc: Global) -> Result<FileDigest, NoMem> {

@@ -16,7 +16,7 @@ mod writing;
 
 pub use axiom_list::AxiomList;
 pub use batch::check_files;
-pub use digests::{DigestList, FileDigest};
+pub use digests::FileDigest;
 pub use endings::{Ending, number};
 pub use keeping::{is_known, keep_named};
 pub use observers::Observer;

@@ -2,7 +2,7 @@
 ghost use Rattle.std.specs.Prelude.{◌≡◌, [], IfOk, length, string_bytes, codes};
 ghost use Rattle.batch_check.specs.Observers.{all_errors, all_admissions, tally_line};
 
-use crate::digests::{DigestList, FileDigest};
+use crate::digests::FileDigest;
 use crate::observers::Observer;
 use base_core::{Bytes, Duplicate, List, NoMem};
 use std::alloc::{AllocError, Global};
@@ -10,16 +10,16 @@ use std::alloc::{AllocError, Global};
 /// The observer named `tally`.
 #[derive(Debug, Drop)]
 pub struct Tally {
-    shown: DigestList,
+    shown: Vec<FileDigest>,
 }
 
 impl Tally {
     /// It was shown nothing yet.
     pub fn new(alloc: Global) -> Tally
-        ensures { result.shown ≡ [] }
+        ensures { result.shown.items ≡ [] }
     {
         Tally {
-            shown: DigestList::new(alloc),
+            shown: Vec::new(alloc),
         }
     }
 }
@@ -59,9 +59,9 @@ fn tally_line(alloc: Global, digests: &[FileDigest]) -> Result<String, AllocErro
 }
 
 impl Observer for Tally {
-    ghost shown = { λ tally. tally.shown };
+    ghost shown = { λ tally. tally.shown.items };
 
-    ghost told = { λ tally. tally_line tally.shown };
+    ghost told = { λ tally. tally_line tally.shown.items };
 
     ghost title = { λ tally. codes "tally" };
 
@@ -70,7 +70,8 @@ impl Observer for Tally {
     }
 
     fn finished(&mut self, alloc: Global, digest: &FileDigest) -> Result<(), NoMem> {
-        self.shown.push(digest.duplicate(alloc)?)
+        self.shown.push(digest.duplicate(alloc)?)?;
+        Ok(())
     }
 
     fn summary(&self, alloc: Global) -> Result<Bytes, NoMem> {
