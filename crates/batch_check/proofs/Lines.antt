@@ -1,5 +1,5 @@
 -- Lines, one after another.
-use Rattle.std.proofs.Common.{◌≡◌, ℕ, ◌+◌, ◌<◌, List, ◌∷◌, ◌++◌, length, get_or, drop, append_assoc, suc, sym, ◌∙◌, ap, add-one}
+use Rattle.std.proofs.Common.{◌≡◌, ℕ, ◌+◌, ◌<◌, List, ◌∷◌, ◌++◌, fold, length, get_or, drop, append_assoc, suc, sym, ◌∙◌, ap, add-one}
 use Rattle.std.proofs.Math.Seq.{drop-cons}
 
 -- one more line was added, of those that are joined by a rule
@@ -10,4 +10,12 @@ lines_more line lines rule xs i d before now whole h grown was =
     ∙ ap (λ n. n ++ lines (drop (suc i) xs)) grown
     ∙ append_assoc before (line (get_or xs i d)) (lines (drop (suc i) xs))
     ∙ ap (λ l. before ++ l) (sym (ap lines parts ∙ rule (get_or xs i d) (drop (suc i) xs)))
+    ∙ was
+
+-- one more item was folded in
+pub fold_more : {A B : Type 0} (f : B → A → B) (xs : List A) (i : ℕ) (d : A) (before now whole : B) → i < length xs → now ≡ f before (get_or xs i d) → fold f before (drop i xs) ≡ whole → fold f now (drop (i + 1) xs) ≡ whole
+fold_more f xs i d before now whole h grown was =
+    ap (λ n. fold f now (drop n xs)) (add-one i)
+    ∙ ap (λ b. fold f b (drop (suc i) xs)) grown
+    ∙ sym (ap (fold f before) (drop-cons xs i d h))
     ∙ was

@@ -13,7 +13,7 @@ fn is_named(name: &str, names: &[Text]) -> bool
     names.iter().any(|other| name == other.as_str())
 }
 
-fn has_name(observer: &Box<dyn Observer>, names: &[Text]) -> bool
+fn has_one_of(observer: &Box<dyn Observer>, names: &[Text]) -> bool
     ensures { result ≡ list_any (bytes_eq (title observer.now)) names.now }
 {
     is_named(observer.name(), names)
@@ -25,7 +25,13 @@ pub fn keep_named(watch: &mut Vec<Box<dyn Observer>>, names: &[Text])
 {
     watch.retain(|observer| -> bool
         ensures { result ≡ list_any (bytes_eq (title observer.now)) names.entry.now }
-        { has_name(observer, names) });
+        { has_one_of(observer, names) });
+}
+
+fn has_name(observer: &Box<dyn Observer>, name: &str) -> bool
+    ensures { result ≡ bytes_eq (title observer.now) name.now }
+{
+    observer.name() == name
 }
 
 /// Whether an observer has this name.
@@ -33,7 +39,7 @@ pub fn is_known(watch: &Vec<Box<dyn Observer>>, name: &str) -> bool
     ensures { result ≡ list_any (λ o. bytes_eq (title o) name.now) watch.now.items }
 {
     for observer in watch.as_slice() {
-        if observer.name() == name {
+        if has_name(observer, name) {
             return true;
         }
     }

@@ -61,7 +61,10 @@ pub(crate) fn write_summaries<S: Sink>(
     ensures { Writes S.written S.faults out.old out.new result (joined (map (λ o. told o) watch.now.items)) }
 {
     for i in 0..watch.len() {
-        write_summary(alloc, &watch[i], out)?;
+        match write_summary(alloc, &watch[i], out) {
+            Ok(()) => {}
+            Err(halt) => return Err(halt),
+        }
     }
     Ok(())
 }
