@@ -1,4 +1,4 @@
-use Rattle.std.proofs.Common.{rules, refl, ◌∙◌}
+use Rattle.std.proofs.Common.{rules, ◌∙◌}
 use Rattle.batch_check.proofs.Pieces.{writes_cut, wrote_more}
 use Rattle.batch_check.proofs.showing.write_summaries.Goals as goal
 
