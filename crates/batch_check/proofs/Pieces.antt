@@ -1,7 +1,6 @@
 -- Observers that are shown a file in turn, and pieces that are written one after another.
-use Rattle.std.proofs.Common.{◌≡◌, ℕ, ◌+◌, ◌<◌, ◌≤◌, Bool, true, false, ◌||◌, Option, None, Some, Result, Ok, Err, List, [], ◌∷◌, ◌++◌, OnErr, length, map, set, take, drop, get_or, append_assoc, append-nil, suc, refl, sym, ◌∙◌, ap, subst, arith, add-one, length-drop}
+use Rattle.std.proofs.Common.{◌≡◌, ℕ, ◌+◌, ◌<◌, ◌≤◌, Bool, true, false, ◌||◌, Option, Result, Ok, Err, List, [], ◌∷◌, ◌++◌, OnErr, length, map, set, take, drop, get_or, append_assoc, append-nil, suc, refl, sym, ◌∙◌, ap, subst, arith, add-one, length-drop}
 use Rattle.std.specs.List.{list_any}
-use Rattle.std.specs.Result.{IsErrOf}
 use Rattle.std.proofs.Math.Seq.{drop-cons, map-set_same}
 use Rattle.std.proofs.lemmas.List.{take-append-drop, take_more, length-map, map-append, map-set, get_or-map}
 use Rattle.std.proofs.lemmas.List.Edits.{map_over_more}

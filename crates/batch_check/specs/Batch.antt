@@ -13,6 +13,8 @@ use Rattle.batch_check.specs.declared.endings.Ending.TheVariants as ending
 use Rattle.batch_check.specs.declared.outcomes.FileReport.{FileReport}
 use Rattle.batch_check.specs.declared.outcomes.Outcome.{Outcome}
 use Rattle.batch_check.specs.declared.outcomes.Outcome.TheVariants.{Reported, NotRead, NotText}
+use Rattle.batch_check.specs.declared.outcomes.Next.{Next}
+use Rattle.batch_check.specs.declared.outcomes.Next.TheVariants as next
 use Rattle.batch_check.specs.Reports.{joined}
 use Rattle.batch_check.specs.Digests.{is_clean}
 use Rattle.batch_check.specs.Outcome.{file_outcome}
@@ -23,11 +25,15 @@ pub record Batch : Type 0 where
   pub reports : List FileReport
   pub ending : Ending
 
+-- how the check ends with one report more, which is clean or not
+abbrev pub with_clean : Ending → Bool → Ending
+with_clean end clean = if clean then end else ending.Unclean
+
 -- one report more
 abbrev pub with_report : Batch → FileReport → Batch
 with_report done report = record {
   reports = done.reports ++ report ∷ [];
-  ending = if is_clean report.digest then done.ending else ending.Unclean;
+  ending = with_clean done.ending (is_clean report.digest);
 }
 
 -- no report more: it ends so
@@ -146,10 +152,9 @@ pub record IsUntouched (old new : Option (List ℕ)) (before after : List (List 
   pub shown : after ≡ before
 
 -- what one file brings
-abbrev pub Brings : Outcome → Result Ending Halt → Option (List ℕ) → Option (List ℕ) → List (List FileDigest) → List (List FileDigest) → Type 0
-Brings outcome (Ok ending.Clean) old new before after = IsPublished outcome true old new before after
-Brings outcome (Ok ending.Unclean) old new before after = IsPublished outcome false old new before after
-Brings outcome (Ok ending.NotRead) old new before after = (outcome ≡ NotRead) × IsUntouched old new before after
-Brings outcome (Ok ending.NotText) old new before after = (outcome ≡ NotText) × IsUntouched old new before after
+abbrev pub Brings : Outcome → Result Next Halt → Option (List ℕ) → Option (List ℕ) → List (List FileDigest) → List (List FileDigest) → Type 0
+Brings outcome (Ok (next.Reported clean)) old new before after = IsPublished outcome clean old new before after
+Brings outcome (Ok next.NotRead) old new before after = (outcome ≡ NotRead) × IsUntouched old new before after
+Brings outcome (Ok next.NotText) old new before after = (outcome ≡ NotText) × IsUntouched old new before after
 Brings outcome (Err halt.NoMem) old new before after = IsUntouched old new before after ⊎ IsHalfShown outcome old new before after
 Brings outcome (Err halt.SinkFailed) old new before after = IsBegun outcome old new before after

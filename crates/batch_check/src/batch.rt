@@ -6,13 +6,13 @@ ghost use Rattle.base_core.specs.Files.{file_at};
 ghost use Rattle.doc_check.specs.Check.{checked};
 ghost use Rattle.batch_check.specs.Outcome.{file_outcome};
 ghost use Rattle.batch_check.specs.declared.outcomes.Outcome.TheVariants.{Reported as IsReported};
-ghost use Rattle.batch_check.specs.Batch.{Brings, Checks, files_batch};
+ghost use Rattle.batch_check.specs.Batch.{Brings, Checks, files_batch, with_clean};
 
 use crate::checks::check_file;
 use crate::digests::is_clean;
 use crate::endings::Ending;
 use crate::observers::Observer;
-use crate::outcomes::{FileReport, Outcome};
+use crate::outcomes::{FileReport, Next, Outcome};
 use crate::showing::{show_all, write_summaries};
 use crate::writing::write_whole;
 use base_core::{FileSet, Halt, NoMem, Sink, Steps, Text};
@@ -26,13 +26,13 @@ fn publish<S: Sink>(
     report: &FileReport,
     out: &mut S,
     watch: &mut Vec<Box<dyn Observer>>,
-) -> Result<Ending, Halt>
+) -> Result<Next, Halt>
     ensures told { Brings (IsReported report.now) result (S.written out.old) (S.written out.new)
         (map (λ o. shown o) watch.old.items) (map (λ o. shown o) watch.new.items) }
     ensures named { map (λ o. title o) watch.new.items ≡ map (λ o. title o) watch.old.items }
     ensures later { S.faults out.old ≤ S.faults out.new }
     ensures failed { IsErrOf result Halt.SinkFailed → Rose (S.faults out.old) (S.faults out.new) }
-    ensures read { result ≢ Ok Ending.NotRead }
+    ensures read { result ≢ Ok Next.NotRead }
 {
     if !write_whole(out, report.lines.as_str().as_bytes()) {
         return Err(Halt::SinkFailed);
@@ -41,11 +41,7 @@ fn publish<S: Sink>(
         Ok(()) => {}
         Err(NoMem) => return Err(Halt::NoMem),
     }
-    if is_clean(&report.digest) {
-        Ok(Ending::Clean)
-    } else {
-        Ok(Ending::Unclean)
-    }
+    Ok(Next::Reported(is_clean(&report.digest)))
 }
 
 /// Checks a file, writes its report and shows it to each observer.
@@ -57,7 +53,7 @@ fn check_next<F: FileSet, S: Sink, P: Prover, C: Ledger>(
     prover: &P,
     watch: &mut Vec<Box<dyn Observer>>,
     steps: &mut Steps<C>,
-) -> Result<Ending, Halt>
+) -> Result<Next, Halt>
     ensures told { IfSome (F.content files.old) (λ listed.
         Brings (file_outcome (checked P.means) name.now (file_at listed name.now)) result
         (S.written out.old) (S.written out.new)
@@ -67,14 +63,21 @@ fn check_next<F: FileSet, S: Sink, P: Prover, C: Ledger>(
     ensures later { S.faults out.old ≤ S.faults out.new }
     ensures failed { IsErrOf result Halt.SinkFailed → Rose (S.faults out.old) (S.faults out.new) }
     ensures reads { F.faults files.old ≤ F.faults files.new }
-    ensures not_read { result ≡ Ok Ending.NotRead → Rose (F.faults files.old) (F.faults files.new) }
+    ensures not_read { result ≡ Ok Next.NotRead → Rose (F.faults files.old) (F.faults files.new) }
 {
     match check_file(alloc, prover, name, files, steps) {
         Ok(Outcome::Reported(report)) => publish(alloc, &report, out, watch),
-        Ok(Outcome::NotRead) => Ok(Ending::NotRead),
-        Ok(Outcome::NotText) => Ok(Ending::NotText),
+        Ok(Outcome::NotRead) => Ok(Next::NotRead),
+        Ok(Outcome::NotText) => Ok(Next::NotText),
         Err(NoMem) => Err(Halt::NoMem),
     }
+}
+
+/// How the check ends with one report more.
+fn with_clean(ending: Ending, clean: bool) -> Ending
+    ensures { result ≡ with_clean ending clean }
+{
+    if clean { ending } else { Ending::Unclean }
 }
 
 /// Checks the files of these names in order, writes the report of each, and shows it to each observer. The first file
@@ -103,14 +106,15 @@ pub fn check_files<F: FileSet, S: Sink, P: Prover, C: Ledger>(
     let mut ending = Ending::Clean;
     for name in names {
         match check_next(alloc, name.as_str(), files, out, prover, watch, steps) {
-            Ok(Ending::Clean) => {}
-            Ok(Ending::Unclean) => ending = Ending::Unclean,
-            Ok(Ending::NotRead) => return Ok(Ending::NotRead),
-            Ok(Ending::NotText) => return Ok(Ending::NotText),
+            Ok(Next::Reported(clean)) => ending = with_clean(ending, clean),
+            Ok(Next::NotRead) => return Ok(Ending::NotRead),
+            Ok(Next::NotText) => return Ok(Ending::NotText),
             Err(Halt::NoMem) => return Err(Halt::NoMem),
             Err(Halt::SinkFailed) => return Err(Halt::SinkFailed),
         }
     }
-    write_summaries(alloc, watch, out)?;
-    Ok(ending)
+    match write_summaries(alloc, watch, out) {
+        Ok(()) => Ok(ending),
+        Err(halt) => Err(halt),
+    }
 }

@@ -17,3 +17,12 @@ pub enum Outcome {
     /// It is no text of at most 1,048,576 bytes.
     NotText,
 }
+
+/// What a file brings to the check of the files behind it.
+#[derive(Clone, Copy, Debug, PartialEq, Eq)]
+pub enum Next {
+    /// It was reported, and whether it is clean.
+    Reported(bool),
+    NotRead,
+    NotText,
+}
