@@ -111,12 +111,6 @@ pub sofar_first : (outcome : List ℕ → Outcome) (names : List (List ℕ)) (to
 sofar_first outcome names told before = record { done = []; goes = refl; wrote = sym (appended-nil told); shown = none_shown before }
 
 module _ (whole : Batch) (outcome : List ℕ → Outcome) (names : List (List ℕ)) (i : ℕ) (d name : List ℕ) (end : Ending) (old now new : Option (List ℕ)) (before mid after : List (List FileDigest)) (lt : i < length names) (is : name ≡ get_or names i d) (s : SoFar whole outcome (drop i names) end old now before mid) where
-  others_of : Batch → Batch
-  others_of b = batch_from outcome b (drop (suc i) names)
-
-  so_far : Batch
-  so_far = record { reports = s.done; ending = end }
-
   -- the file there decides how it goes on
   goes_at : goes_on (record { reports = s.done; ending = end }) (λ b. batch_from outcome b (drop (suc i) names)) (outcome name) ≡ whole
   goes_at =

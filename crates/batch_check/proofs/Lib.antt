@@ -2,5 +2,4 @@ pub mod Statuses
 pub mod Texts
 pub mod Lines
 pub mod Pieces
-
 pub mod Batches

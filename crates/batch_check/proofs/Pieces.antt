@@ -80,10 +80,10 @@ writes_cut {D} {T} written faults old mid new f xs i d r halt lt is told calm e 
       failed = λ fails. rose_since (faults old) (faults mid) (faults new) (omega (arith, calm)) (w.failed fails);
       calm = calmed halt w.calm;
     }
-    where
-      calmed : (h : Halt) → IsCalmWrite {T = T} (Err h) (faults mid) (faults new) → IsCalmWrite {T = T} (Err h) (faults old) (faults new)
-      calmed NoMem c = c ∙ calm
-      calmed SinkFailed c = tt
+  where
+    calmed : (h : Halt) → IsCalmWrite {T = T} (Err h) (faults mid) (faults new) → IsCalmWrite {T = T} (Err h) (faults old) (faults new)
+    calmed NoMem c = c ∙ calm
+    calmed SinkFailed c = tt
 
 -- the piece at a place was written
 pub wrote_more : {X : Type 0} (old now new : Option (List ℕ)) (f : X → List ℕ) (xs : List X) (i : ℕ) (d : X) → i < length xs → d ≡ get_or xs i d → now ≡ appended old (joined (map f (take i xs))) → new ≡ appended now (f d) → new ≡ appended old (joined (map f (take (i + 1) xs)))

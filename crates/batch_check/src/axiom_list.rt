@@ -8,6 +8,7 @@ use crate::observers::Observer;
 use base_core::{Bytes, Duplicate, List, NoMem, Text};
 use indexmap::IndexSet;
 use std::alloc::{AllocError, Global};
+use std::marker::Model;
 
 /// The observer named `axioms`.
 #[derive(Debug, Drop)]
@@ -15,10 +16,23 @@ pub struct AxiomList {
     shown: Vec<FileDigest>,
 }
 
+impl Model for AxiomList {
+    ghost use Rattle.std.specs.Prelude.{List};
+    ghost use Rattle.std.specs.Coded.{coded_list};
+    ghost use Rattle.batch_check.specs.declared.digests.FileDigest.{FileDigest as Digest};
+    ghost use Rattle.batch_check.specs.contracts.digests.FileDigest as digest;
+
+    ghost Value = { List Digest };
+
+    ghost coded = { coded_list digest.the_row.coded };
+
+    ghost view = { λ a. a.shown.items };
+}
+
 impl AxiomList {
     /// It was shown nothing yet.
     pub fn new(alloc: Global) -> AxiomList
-        ensures { result.shown.items ≡ [] }
+        ensures { result ≡ [] }
     {
         AxiomList {
             shown: Vec::new(alloc),
@@ -65,9 +79,9 @@ fn axioms_line(alloc: Global, digests: &[FileDigest]) -> Result<String, NoMem>
 }
 
 impl Observer for AxiomList {
-    ghost shown = { λ list. list.shown.items };
+    ghost shown = { λ list. list };
 
-    ghost told = { λ list. axioms_line list.shown.items };
+    ghost told = { λ list. axioms_line list };
 
     ghost title = { λ list. codes "axioms" };
 

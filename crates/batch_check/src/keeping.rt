@@ -23,9 +23,11 @@ fn has_one_of(observer: &Box<dyn Observer>, names: &[Text]) -> bool
 pub fn keep_named(watch: &mut Vec<Box<dyn Observer>>, names: &[Text])
     ensures { watch.new.items ≡ filter (λ o. list_any (bytes_eq (title o)) names.now) watch.old.items }
 {
-    watch.retain(|observer| -> bool
-        ensures { result ≡ list_any (bytes_eq (title observer.now)) names.entry.now }
-        { has_one_of(observer, names) });
+    watch.retain(
+        |observer| -> bool
+            ensures { result ≡ list_any (bytes_eq (title observer.now)) names.entry.now }
+        { has_one_of(observer, names) },
+    );
 }
 
 fn has_name(observer: &Box<dyn Observer>, name: &str) -> bool

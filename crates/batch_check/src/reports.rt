@@ -102,7 +102,7 @@ fn is_admitted(kind: ItemKind) -> bool
 }
 
 /// How many declarations are admitted.
-pub fn admission_count(items: &[OutlineItem]) -> usize
+pub(crate) fn admission_count(items: &[OutlineItem]) -> usize
     ensures { result ≡ admission_count items.now }
 {
     items.iter().filter(|item| is_admitted(item.kind)).count()
@@ -124,7 +124,7 @@ fn add_end(
 }
 
 /// All lines of a file: its diagnostics, its outline, the totals.
-pub fn report_lines(
+pub(crate) fn report_lines(
     alloc: Global,
     name: &str,
     doc: &Doc,

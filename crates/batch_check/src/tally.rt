@@ -6,6 +6,7 @@ use crate::digests::FileDigest;
 use crate::observers::Observer;
 use base_core::{Bytes, Duplicate, List, NoMem};
 use std::alloc::{AllocError, Global};
+use std::marker::Model;
 
 /// The observer named `tally`.
 #[derive(Debug, Drop)]
@@ -13,10 +14,23 @@ pub struct Tally {
     shown: Vec<FileDigest>,
 }
 
+impl Model for Tally {
+    ghost use Rattle.std.specs.Prelude.{List};
+    ghost use Rattle.std.specs.Coded.{coded_list};
+    ghost use Rattle.batch_check.specs.declared.digests.FileDigest.{FileDigest as Digest};
+    ghost use Rattle.batch_check.specs.contracts.digests.FileDigest as digest;
+
+    ghost Value = { List Digest };
+
+    ghost coded = { coded_list digest.the_row.coded };
+
+    ghost view = { λ a. a.shown.items };
+}
+
 impl Tally {
     /// It was shown nothing yet.
     pub fn new(alloc: Global) -> Tally
-        ensures { result.shown.items ≡ [] }
+        ensures { result ≡ [] }
     {
         Tally {
             shown: Vec::new(alloc),
@@ -59,9 +73,9 @@ fn tally_line(alloc: Global, digests: &[FileDigest]) -> Result<String, AllocErro
 }
 
 impl Observer for Tally {
-    ghost shown = { λ tally. tally.shown.items };
+    ghost shown = { λ tally. tally };
 
-    ghost told = { λ tally. tally_line tally.shown.items };
+    ghost told = { λ tally. tally_line tally };
 
     ghost title = { λ tally. codes "tally" };
 

@@ -7,10 +7,15 @@ use Rattle.batch_check.proofs.Batches.{IsReporting, has_line, sofar_first, sofar
 use Rattle.batch_check.proofs.batch.check_files.Goals as goal
 
 pub loop-name-init : goal.loop-name-init
-loop-name-init g c =
-    (told_any (g.F.FileSet.content c.args.files.now) _
-    (λ listed. sofar_first (λ name. file_outcome (checked g.P.Prover.means) name (file_at listed name)) c.args.names.now (g.S.Sink.written c.args.out.now) _),
-    tt, refl, refl, omega arith, omega arith)
+loop-name-init g c = (
+  told_any (g.F.FileSet.content c.args.files.now) _
+      (λ listed. sofar_first (λ name. file_outcome (checked g.P.Prover.means) name (file_at listed name)) c.args.names.now (g.S.Sink.written c.args.out.now) _),
+  tt,
+  refl,
+  refl,
+  omega arith,
+  omega arith,
+)
 
 pub returns-in-Ok-NotRead-clause-told : goal.returns-in-Ok-NotRead-clause-told
 returns-in-Ok-NotRead-clause-told g c =
@@ -33,14 +38,15 @@ returns-in-Err-SinkFailed-clause-told g c =
     (λ listed s b. sink_failed _ _ c.args.names.now c.loop-name.name-index c.name-item.result c.as_str.result.now _ _ _ _ _ _ _ c.loop-name-test.true (c.as_str.ensures ∙ c.name-item.is) s _ b (λ n. has_line (checked g.P.Prover.means) n (file_at listed n)) _ (c.in-Err-SinkFailed.is ∙ ap Err c.in-Err-SinkFailed.field-0-is))
 
 pub loop-name-preserved : goal.loop-name-preserved
-loop-name-preserved g c =
-    (told_both _ _ _ _ _ c.loop-name.invariant.2 c.loop-name.invariant.0 c.check_next.ensures.told
-    (λ listed s b. sofar_next _ _ c.args.names.now c.loop-name.name-index c.name-item.result c.as_str.result.now _ _ _ _ _ _ _ c.loop-name-test.true (c.as_str.ensures ∙ c.name-item.is) s _ b c.in-Ok-Reported.clean _ c.with_clean-ending.ensures (c.in-Ok-Reported.is ∙ ap Ok c.in-Ok-Reported.field-0-is)),
-    subst IsReporting (sym c.with_clean-ending.ensures) (reports_on c.loop-name.ending c.in-Ok-Reported.clean c.loop-name.invariant.1),
-    c.check_next.ensures.same ∙ c.loop-name.invariant.2,
-    c.check_next.ensures.named ∙ c.loop-name.invariant.3,
-    omega (arith, c.check_next.ensures.later, c.loop-name.invariant.4),
-    omega (arith, c.check_next.ensures.reads, c.loop-name.invariant.5))
+loop-name-preserved g c = (
+  told_both _ _ _ _ _ c.loop-name.invariant.2 c.loop-name.invariant.0 c.check_next.ensures.told
+      (λ listed s b. sofar_next _ _ c.args.names.now c.loop-name.name-index c.name-item.result c.as_str.result.now _ _ _ _ _ _ _ c.loop-name-test.true (c.as_str.ensures ∙ c.name-item.is) s _ b c.in-Ok-Reported.clean _ c.with_clean-ending.ensures (c.in-Ok-Reported.is ∙ ap Ok c.in-Ok-Reported.field-0-is)),
+  subst IsReporting (sym c.with_clean-ending.ensures) (reports_on c.loop-name.ending c.in-Ok-Reported.clean c.loop-name.invariant.1),
+  c.check_next.ensures.same ∙ c.loop-name.invariant.2,
+  c.check_next.ensures.named ∙ c.loop-name.invariant.3,
+  omega (arith, c.check_next.ensures.later, c.loop-name.invariant.4),
+  omega (arith, c.check_next.ensures.reads, c.loop-name.invariant.5),
+)
 
 pub returns-in-Ok-clause-told : goal.returns-in-Ok-clause-told
 returns-in-Ok-clause-told g c =

@@ -11,7 +11,8 @@ returns-in_err-show-clause-named g c =
     kept_by (λ o. (goal.Observer-dyn g (o.vtable, o.value)).title o.value) c.loop-i.watch.items _ c.loop-i.i c.index_mut.result.now c.show.new.observer c.show.ensures.named (search rules) c.loop-i.invariant.2
 
 pub loop-i-preserved : goal.loop-i-preserved
-loop-i-preserved g c =
-    (search rules,
-    show_more (λ o. (goal.Observer-dyn g (o.vtable, o.value)).shown o.value) (c.args.digest.now ∷ []) c.loop-i.watch.items c.args.watch.now.items c.loop-i.i c.index_mut.result.now c.show.new.observer (search rules) c.loop-i.invariant.0 (search rules) (search rules) c.loop-i.invariant.1,
-    kept_by (λ o. (goal.Observer-dyn g (o.vtable, o.value)).title o.value) c.loop-i.watch.items _ c.loop-i.i c.index_mut.result.now c.show.new.observer c.show.ensures.named (search rules) c.loop-i.invariant.2)
+loop-i-preserved g c = (
+  search rules,
+  show_more (λ o. (goal.Observer-dyn g (o.vtable, o.value)).shown o.value) (c.args.digest.now ∷ []) c.loop-i.watch.items c.args.watch.now.items c.loop-i.i c.index_mut.result.now c.show.new.observer (search rules) c.loop-i.invariant.0 (search rules) (search rules) c.loop-i.invariant.1,
+  kept_by (λ o. (goal.Observer-dyn g (o.vtable, o.value)).title o.value) c.loop-i.watch.items _ c.loop-i.i c.index_mut.result.now c.show.new.observer c.show.ensures.named (search rules) c.loop-i.invariant.2,
+)
