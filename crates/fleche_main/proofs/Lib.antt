@@ -1,4 +1,1 @@
-pub mod Statuses
-pub mod Texts
-pub mod Lines
 pub mod Asked
