@@ -21,15 +21,15 @@ use std::alloc::Global;
 use std::sync::ledger::Ledger;
 
 /// Writes a file's report and shows it to each observer.
-fn publish<S: Sink>(
+fn publish<S: Sink, O: Observer>(
     alloc: Global,
     report: &FileReport,
     out: &mut S,
-    watch: &mut Vec<Box<dyn Observer>>,
+    watch: &mut Vec<O>,
 ) -> Result<Next, Halt>
     ensures told { Brings (IsReported report.now) result (S.written out.old) (S.written out.new)
-        (map (λ o. shown o) watch.old.items) (map (λ o. shown o) watch.new.items) }
-    ensures named { map (λ o. title o) watch.new.items ≡ map (λ o. title o) watch.old.items }
+        (map O.shown watch.old.items) (map O.shown watch.new.items) }
+    ensures named { map O.title watch.new.items ≡ map O.title watch.old.items }
     ensures later { S.faults out.old ≤ S.faults out.new }
     ensures failed { IsErrOf result Halt.SinkFailed → Rose (S.faults out.old) (S.faults out.new) }
     ensures read { result ≢ Ok Next.NotRead }
@@ -45,21 +45,21 @@ fn publish<S: Sink>(
 }
 
 /// Checks a file, writes its report and shows it to each observer.
-fn check_next<F: FileSet, S: Sink, P: Prover, C: Ledger>(
+fn check_next<F: FileSet, S: Sink, P: Prover, O: Observer, C: Ledger>(
     alloc: Global,
     name: &str,
     files: &mut F,
     out: &mut S,
     prover: &P,
-    watch: &mut Vec<Box<dyn Observer>>,
+    watch: &mut Vec<O>,
     steps: &mut Steps<C>,
 ) -> Result<Next, Halt>
     ensures told { IfSome (F.content files.old) (λ listed.
         Brings (file_outcome (checked P.means) name.now (file_at listed name.now)) result
         (S.written out.old) (S.written out.new)
-        (map (λ o. shown o) watch.old.items) (map (λ o. shown o) watch.new.items)) }
+        (map O.shown watch.old.items) (map O.shown watch.new.items)) }
     ensures same { F.content files.new ≡ F.content files.old }
-    ensures named { map (λ o. title o) watch.new.items ≡ map (λ o. title o) watch.old.items }
+    ensures named { map O.title watch.new.items ≡ map O.title watch.old.items }
     ensures later { S.faults out.old ≤ S.faults out.new }
     ensures failed { IsErrOf result Halt.SinkFailed → Rose (S.faults out.old) (S.faults out.new) }
     ensures reads { F.faults files.old ≤ F.faults files.new }
@@ -82,22 +82,22 @@ fn with_clean(ending: Ending, clean: bool) -> Ending
 
 /// Checks the files of these names in order, writes the report of each, and shows it to each observer. The first file
 /// that gives no report ends the check. Behind the last report come the observers' summaries.
-pub fn check_files<F: FileSet, S: Sink, P: Prover, C: Ledger>(
+pub fn check_files<F: FileSet, S: Sink, P: Prover, O: Observer, C: Ledger>(
     alloc: Global,
     names: &[Text],
     files: &mut F,
     out: &mut S,
     prover: &P,
-    watch: &mut Vec<Box<dyn Observer>>,
+    watch: &mut Vec<O>,
     steps: &mut Steps<C>,
 ) -> Result<Ending, Halt>
     // Where the files are told: how it ends, and what it has written and shown.
     ensures told { IfSome (F.content files.old) (λ listed. Checks (files_batch P.means listed names.now) result
-        (S.written out.old) (S.written out.new) (map (λ o. told o) watch.new.items)
-        (map (λ o. shown o) watch.old.items) (map (λ o. shown o) watch.new.items)) }
+        (S.written out.old) (S.written out.new) (map O.told watch.new.items)
+        (map O.shown watch.old.items) (map O.shown watch.new.items)) }
 
     // Each observer stays in its place, with its name.
-    ensures named { map (λ o. title o) watch.new.items ≡ map (λ o. title o) watch.old.items }
+    ensures named { map O.title watch.new.items ≡ map O.title watch.old.items }
 
     // The sink fails, and a file isn't read, only where a fault more is counted.
     ensures failed { IsErrOf result Halt.SinkFailed → Rose (S.faults out.old) (S.faults out.new) }

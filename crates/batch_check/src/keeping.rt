@@ -1,5 +1,5 @@
 //! Which observers are kept, by name.
-ghost use Rattle.std.specs.Prelude.{◌≡◌, filter, map};
+ghost use Rattle.std.specs.Prelude.{◌≡◌, filter};
 ghost use Rattle.std.specs.List.{list_any};
 ghost use Rattle.std.specs.Str.{bytes_eq};
 
@@ -7,43 +7,30 @@ use crate::observers::Observer;
 use base_core::Text;
 
 /// Whether a name is one of these.
-fn is_named(name: &str, names: &[Text]) -> bool
+fn is_one_of(name: &str, names: &[Text]) -> bool
     ensures { result ≡ list_any (bytes_eq name.now) names.now }
 {
     names.iter().any(|other| name == other.as_str())
 }
 
-fn has_one_of(observer: &Box<dyn Observer>, names: &[Text]) -> bool
-    ensures { result ≡ list_any (bytes_eq (title observer.now)) names.now }
+fn is_named<O: Observer>(observer: &O, names: &[Text]) -> bool
+    ensures { result ≡ list_any (bytes_eq (O.title observer.now)) names.now }
 {
-    is_named(observer.name(), names)
+    is_one_of(observer.name(), names)
 }
 
 /// Takes out the observers whose name isn't one of these. The others stay in their order.
-pub fn keep_named(watch: &mut Vec<Box<dyn Observer>>, names: &[Text])
-    ensures { watch.new.items ≡ filter (λ o. list_any (bytes_eq (title o)) names.now) watch.old.items }
+pub fn keep_named<O: Observer>(watch: &mut Vec<O>, names: &[Text])
+    ensures { watch.new.items ≡ filter (λ o. list_any (bytes_eq (O.title o)) names.now) watch.old.items }
 {
-    watch.retain(
-        |observer| -> bool
-            ensures { result ≡ list_any (bytes_eq (title observer.now)) names.entry.now }
-        { has_one_of(observer, names) },
-    );
-}
-
-fn has_name(observer: &Box<dyn Observer>, name: &str) -> bool
-    ensures { result ≡ bytes_eq (title observer.now) name.now }
-{
-    observer.name() == name
+    watch.retain(|observer| -> bool
+        ensures { result ≡ list_any (bytes_eq (O.title observer.now)) names.entry.now }
+        { is_named(observer, names) });
 }
 
 /// Whether an observer has this name.
-pub fn is_known(watch: &Vec<Box<dyn Observer>>, name: &str) -> bool
-    ensures { result ≡ list_any (λ o. bytes_eq (title o) name.now) watch.now.items }
+pub fn is_known<O: Observer>(watch: &[O], name: &str) -> bool
+    ensures { result ≡ list_any (λ o. bytes_eq (O.title o) name.now) watch.now }
 {
-    for observer in watch.as_slice() {
-        if has_name(observer, name) {
-            return true;
-        }
-    }
-    false
+    watch.iter().any(|observer| observer.name() == name)
 }

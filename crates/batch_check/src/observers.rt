@@ -30,3 +30,23 @@ pub trait Observer: Drop {
     fn summary(&self, alloc: Global) -> Result<Bytes, NoMem>
         ensures { IfOk result (λ bytes. bytes ≡ told self.now) };
 }
+
+impl Observer for Box<dyn Observer> {
+    ghost shown = { λ o. (Observer-box o).shown o.value };
+
+    ghost told = { λ o. (Observer-box o).told o.value };
+
+    ghost title = { λ o. (Observer-box o).title o.value };
+
+    fn name(&self) -> &str {
+        (**self).name()
+    }
+
+    fn finished(&mut self, alloc: Global, digest: &FileDigest) -> Result<(), NoMem> {
+        (**self).finished(alloc, digest)
+    }
+
+    fn summary(&self, alloc: Global) -> Result<Bytes, NoMem> {
+        (**self).summary(alloc)
+    }
+}

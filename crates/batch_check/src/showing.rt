@@ -9,25 +9,25 @@ use crate::observers::Observer;
 use base_core::{Bytes, Halt, NoMem, Sink, write_all};
 use std::alloc::Global;
 
-fn show(alloc: Global, observer: &mut Box<dyn Observer>, digest: &FileDigest) -> Result<(), NoMem>
-    ensures shows { OnOk result (shown observer.new ≡ shown observer.old ++ digest.now ∷ []) }
-    ensures fails { OnErr result (shown observer.new ≡ shown observer.old) }
-    ensures named { title observer.new ≡ title observer.old }
+fn show<O: Observer>(alloc: Global, observer: &mut O, digest: &FileDigest) -> Result<(), NoMem>
+    ensures shows { OnOk result (O.shown observer.new ≡ O.shown observer.old ++ digest.now ∷ []) }
+    ensures fails { OnErr result (O.shown observer.new ≡ O.shown observer.old) }
+    ensures named { O.title observer.new ≡ O.title observer.old }
 {
     observer.finished(alloc, digest)
 }
 
 /// Shows a file to each observer in turn.
-pub(crate) fn show_all(
+pub(crate) fn show_all<O: Observer>(
     alloc: Global,
-    watch: &mut Vec<Box<dyn Observer>>,
+    watch: &mut Vec<O>,
     digest: &FileDigest,
 ) -> Result<(), NoMem>
     ensures shows { OnOk result (AllShown (digest.now ∷ [])
-        (map (λ o. shown o) watch.old.items) (map (λ o. shown o) watch.new.items)) }
-    ensures fails { OnErr result ((first : ℕ) × (map (λ o. shown o) watch.new.items ≡
-        first_shown first (digest.now ∷ []) (map (λ o. shown o) watch.old.items))) }
-    ensures named { map (λ o. title o) watch.new.items ≡ map (λ o. title o) watch.old.items }
+        (map O.shown watch.old.items) (map O.shown watch.new.items)) }
+    ensures fails { OnErr result ((first : ℕ) × (map O.shown watch.new.items ≡
+        first_shown first (digest.now ∷ []) (map O.shown watch.old.items))) }
+    ensures named { map O.title watch.new.items ≡ map O.title watch.old.items }
 {
     for i in 0..watch.len() {
         show(alloc, &mut watch[i], digest)?;
@@ -35,30 +35,30 @@ pub(crate) fn show_all(
     Ok(())
 }
 
-fn summary(alloc: Global, observer: &Box<dyn Observer>) -> Result<Bytes, NoMem>
-    ensures { IfOk result (λ bytes. bytes ≡ told observer.now) }
+fn summary<O: Observer>(alloc: Global, observer: &O) -> Result<Bytes, NoMem>
+    ensures { IfOk result (λ bytes. bytes ≡ O.told observer.now) }
 {
     observer.summary(alloc)
 }
 
-fn write_summary<S: Sink>(
+fn write_summary<S: Sink, O: Observer>(
     alloc: Global,
-    observer: &Box<dyn Observer>,
+    observer: &O,
     out: &mut S,
 ) -> Result<(), Halt>
-    ensures { Writes S.written S.faults out.old out.new result (told observer.now) }
+    ensures { Writes S.written S.faults out.old out.new result (O.told observer.now) }
 {
     let bytes = summary(alloc, observer)?;
     write_all(out, bytes.as_slice())
 }
 
 /// Writes the summary of each observer in turn.
-pub(crate) fn write_summaries<S: Sink>(
+pub(crate) fn write_summaries<S: Sink, O: Observer>(
     alloc: Global,
-    watch: &Vec<Box<dyn Observer>>,
+    watch: &Vec<O>,
     out: &mut S,
 ) -> Result<(), Halt>
-    ensures { Writes S.written S.faults out.old out.new result (joined (map (λ o. told o) watch.now.items)) }
+    ensures { Writes S.written S.faults out.old out.new result (joined (map O.told watch.now.items)) }
 {
     for i in 0..watch.len() {
         match write_summary(alloc, &watch[i], out) {

@@ -11,11 +11,11 @@ invariant-loop-name g l =
     IfSome (g.F.FileSet.content l.initial.files) (λ listed. SoFar (files_batch g.P.Prover.means listed l.names)
     (λ name. file_outcome (checked g.P.Prover.means) name (file_at listed name)) (drop l.name-index l.names) l.ending
     (g.S.Sink.written l.initial.out) (g.S.Sink.written l.out)
-    (map (λ o. (goal.Observer-dyn g (o.vtable, o.value)).shown o.value) l.initial.watch.items)
-    (map (λ o. (goal.Observer-dyn g (o.vtable, o.value)).shown o.value) l.watch.items))
+    (map g.O.Observer.shown l.initial.watch.items)
+    (map g.O.Observer.shown l.watch.items))
     × IsReporting l.ending
     × (g.F.FileSet.content l.files ≡ g.F.FileSet.content l.initial.files)
-    × (map (λ o. (goal.Observer-dyn g (o.vtable, o.value)).title o.value) l.watch.items
-    ≡ map (λ o. (goal.Observer-dyn g (o.vtable, o.value)).title o.value) l.initial.watch.items)
+    × (map g.O.Observer.title l.watch.items
+    ≡ map g.O.Observer.title l.initial.watch.items)
     × (g.S.Sink.faults l.initial.out ≤ g.S.Sink.faults l.out)
     × (g.F.FileSet.faults l.initial.files ≤ g.F.FileSet.faults l.files)

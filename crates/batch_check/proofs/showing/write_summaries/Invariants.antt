@@ -6,5 +6,5 @@ use Rattle.batch_check.proofs.showing.write_summaries.Given as goal
 abbrev pub invariant-loop-i : goal.invariant-loop-i
 invariant-loop-i g l =
     (g.S.Sink.written l.out
-    ≡ appended (g.S.Sink.written l.initial.out) (joined (map (λ o. (goal.Observer-dyn g (o.vtable, o.value)).told o.value) (take l.i l.watch.items))))
+    ≡ appended (g.S.Sink.written l.initial.out) (joined (map g.O.Observer.told (take l.i l.watch.items))))
     × (g.S.Sink.faults l.out ≡ g.S.Sink.faults l.initial.out)
