@@ -23,9 +23,11 @@ fn is_named<O: Observer>(observer: &O, names: &[Text]) -> bool
 pub fn keep_named<O: Observer>(watch: &mut Vec<O>, names: &[Text])
     ensures { watch.new.items ≡ filter (λ o. list_any (bytes_eq (O.title o)) names.now) watch.old.items }
 {
-    watch.retain(|observer| -> bool
-        ensures { result ≡ list_any (bytes_eq (O.title observer.now)) names.entry.now }
-        { is_named(observer, names) });
+    watch.retain(
+        |observer| -> bool
+            ensures { result ≡ list_any (bytes_eq (O.title observer.now)) names.entry.now }
+        { is_named(observer, names) },
+    );
 }
 
 /// Whether an observer has this name.

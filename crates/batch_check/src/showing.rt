@@ -1,21 +1,13 @@
 //! Observers are shown a file, and their summaries written.
-ghost use Rattle.std.specs.Prelude.{◌≡◌, ◌++◌, [], ◌∷◌, map, ℕ, IfOk, OnOk, OnErr};
+ghost use Rattle.std.specs.Prelude.{◌≡◌, [], ◌∷◌, map, ℕ, OnOk, OnErr};
 ghost use Rattle.base_core.specs.Writes.{Writes};
 ghost use Rattle.batch_check.specs.Reports.{joined};
 ghost use Rattle.batch_check.specs.Observers.{AllShown, first_shown};
 
 use crate::digests::FileDigest;
 use crate::observers::Observer;
-use base_core::{Bytes, Halt, NoMem, Sink, write_all};
+use base_core::{Halt, NoMem, Sink, write_all};
 use std::alloc::Global;
-
-fn show<O: Observer>(alloc: Global, observer: &mut O, digest: &FileDigest) -> Result<(), NoMem>
-    ensures shows { OnOk result (O.shown observer.new ≡ O.shown observer.old ++ digest.now ∷ []) }
-    ensures fails { OnErr result (O.shown observer.new ≡ O.shown observer.old) }
-    ensures named { O.title observer.new ≡ O.title observer.old }
-{
-    observer.finished(alloc, digest)
-}
 
 /// Shows a file to each observer in turn.
 pub(crate) fn show_all<O: Observer>(
@@ -30,25 +22,15 @@ pub(crate) fn show_all<O: Observer>(
     ensures named { map O.title watch.new.items ≡ map O.title watch.old.items }
 {
     for i in 0..watch.len() {
-        show(alloc, &mut watch[i], digest)?;
+        watch[i].finished(alloc, digest)?;
     }
     Ok(())
 }
 
-fn summary<O: Observer>(alloc: Global, observer: &O) -> Result<Bytes, NoMem>
-    ensures { IfOk result (λ bytes. bytes ≡ O.told observer.now) }
-{
-    observer.summary(alloc)
-}
-
-fn write_summary<S: Sink, O: Observer>(
-    alloc: Global,
-    observer: &O,
-    out: &mut S,
-) -> Result<(), Halt>
+fn write_summary<S: Sink, O: Observer>(alloc: Global, observer: &O, out: &mut S) -> Result<(), Halt>
     ensures { Writes S.written S.faults out.old out.new result (O.told observer.now) }
 {
-    let bytes = summary(alloc, observer)?;
+    let bytes = observer.summary(alloc)?;
     write_all(out, bytes.as_slice())
 }
 
