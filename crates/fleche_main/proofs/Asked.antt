@@ -1,38 +1,46 @@
--- The words that ask for a file, and how its check ends by the status.
-use Rattle.std.proofs.Common.{◌≡◌, ◌≢◌, ℕ, inl, inr, Bool, Option, None, Some, IfSome, Result, Ok, Err, List, [], append-nil, refl, sym, ap, subst, ◌∙◌}
-use Rattle.base_core.specs.declared.mem_files.FileItem.{FileItem}
-use Rattle.base_core.specs.Files.{file_at}
-use Rattle.fleche_main.specs.declared.endings.Ending.{Ending}
+-- What the words ask for is what is done.
+use Rattle.std.proofs.Common.{◌≡◌, ℕ, inl, inr, Bool, Option, None, Some, Result, Ok, Err, List, [], append-nil, refl, sym, ap, subst, ◌∙◌}
 use Rattle.base_core.specs.declared.writing.Halt.{Halt}
 use Rattle.base_core.specs.declared.writing.Halt.TheVariants.{NoMem, SinkFailed}
-use Rattle.fleche_main.specs.Words.{Form, NoForm, Document, Session, form_by}
-use Rattle.fleche_main.specs.Outcome.{Outcome, file_outcome}
-use Rattle.fleche_main.specs.Run.{EndsAs, Ends, document_report}
-use Rattle.fleche_main.specs.Status.{status_of, result_status}
+use Rattle.prover_iface.specs.Meanings.{Meanings}
+use Rattle.doc_check.specs.Check.{whole_cost}
+use Rattle.doc_gen.specs.Generated.{generated}
+use Rattle.fleche_main.specs.Words.{Asked, asked, Form, NoForm, Documents, Generated, Session, form_by}
+use Rattle.fleche_main.specs.Generated.{generated_lines, Tells, WorksWithin, IsGenerated, end_status}
 
-ends_by : (outcome : Outcome) (end : Result Ending Halt) (old new : Option (List ℕ)) → EndsAs outcome end old new → Ends outcome (result_status end) old new
-ends_by outcome (Ok ending) old new h = record {
-  status_is = inr (inr (ap status_of h.0));
-  whole = λ _ _. h.1;
-  begun = record { begun = outcome.bytes; left = []; parts = sym (append-nil outcome.bytes); grown = h.1 };
+abbrev asked_count : Form → ℕ
+asked_count NoForm = 0
+asked_count (Documents a) = 0
+asked_count (Generated count) = count
+asked_count (Session paced) = 0
+
+-- the number that is made is the one that is asked for
+pub same_count : (session : Option Bool) (number : Option ℕ) (documents : Option Asked) (count wanted : ℕ) → session ≡ None → number ≡ Some count → form_by session number documents ≡ Generated wanted → count ≡ wanted
+same_count session number documents count wanted e f asks =
+    sym (ap asked_count (ap (λ s. form_by s number documents) e ∙ ap (λ n. form_by None n documents) f)) ∙ ap asked_count asks
+
+abbrev asked_files : Form → Asked
+asked_files NoForm = asked []
+asked_files (Documents a) = a
+asked_files (Generated count) = asked []
+asked_files (Session paced) = asked []
+
+-- and so are the files that are checked
+pub same_files : (session : Option Bool) (number : Option ℕ) (documents : Option Asked) (a wanted : Asked) → session ≡ None → number ≡ None → documents ≡ Some a → form_by session number documents ≡ Documents wanted → a ≡ wanted
+same_files session number documents a wanted e f d asks =
+    sym (ap asked_files (ap (λ s. form_by s number documents) e ∙ ap (λ n. form_by None n documents) f ∙ ap (form_by None None) d)) ∙ ap asked_files asks
+
+by_end : {M T : Type 0} (means : Meanings M) (number before after : ℕ) (end : Result T Halt) (old new : Option (List ℕ)) → Tells (generated_lines means number) end old new → WorksWithin (whole_cost means (generated number)) before after → IsGenerated means number (end_status end) before after old new
+by_end means number before after (Ok t) old new told works = record {
+  status_is = inr (inr refl);
+  whole = λ _ _. told;
+  begun = record { begun = generated_lines means number; left = []; parts = sym (append-nil (generated_lines means number)); grown = told };
+  work = works;
 }
-ends_by outcome (Err NoMem) old new h = record { status_is = inl refl; whole = λ memory _. absurd (memory refl); begun = h }
-ends_by outcome (Err SinkFailed) old new h = record { status_is = inr (inl refl); whole = λ _ sink. absurd (sink refl); begun = h }
+by_end means number before after (Err NoMem) old new told works = record { status_is = inl refl; whole = λ memory _. absurd (memory refl); begun = told; work = works }
+by_end means number before after (Err SinkFailed) old new told works = record { status_is = inr (inl refl); whole = λ _ sink. absurd (sink refl); begun = told; work = works }
 
-abbrev asked_name : Form → List ℕ
-asked_name NoForm = []
-asked_name (Document name) = name
-asked_name (Session paced) = []
-
-same_name : (session : Option Bool) (file : Option (List ℕ)) (name asked : List ℕ) → session ≡ None → file ≡ Some name → form_by session file ≡ Document asked → name ≡ asked
-same_name session file name asked e f h = sym (ap asked_name (ap (λ s. form_by s file) e ∙ ap (form_by None) f)) ∙ ap asked_name h
-
-ends_told : (content : Option (List FileItem)) (name : List ℕ) (end : Result Ending Halt) (old new : Option (List ℕ)) → IfSome content (λ listed. EndsAs (file_outcome document_report name (file_at listed name)) end old new) → IfSome content (λ listed. Ends (file_outcome document_report name (file_at listed name)) (result_status end) old new)
-ends_told None name end old new h = tt
-ends_told (Some listed) name end old new h = ends_by (file_outcome document_report name (file_at listed name)) end old new h
-
--- what is told of the file that was checked is told of the file that was asked for
-pub check_told : (session : Option Bool) (file : Option (List ℕ)) (content : Option (List FileItem)) (name asked : List ℕ) (end : Result Ending Halt) (status : ℕ) (old new : Option (List ℕ)) → session ≡ None → file ≡ Some name → status ≡ result_status end → IfSome content (λ listed. EndsAs (file_outcome document_report name (file_at listed name)) end old new) → form_by session file ≡ Document asked → IfSome content (λ listed. Ends (file_outcome document_report asked (file_at listed asked)) status old new)
-check_told session file content name asked end status old new e f g h asks =
-    subst (λ n. IfSome content (λ listed. Ends (file_outcome document_report n (file_at listed n)) status old new)) (same_name session file name asked e f asks)
-    (subst (λ s. IfSome content (λ listed. Ends (file_outcome document_report name (file_at listed name)) s old new)) (sym g) (ends_told content name end old new h))
+-- what is told of the document that was made is told of the one that was asked for
+pub generated_told : {M T : Type 0} (means : Meanings M) (number wanted before after status : ℕ) (end : Result T Halt) (old new : Option (List ℕ)) → number ≡ wanted → status ≡ end_status end → Tells (generated_lines means number) end old new → WorksWithin (whole_cost means (generated number)) before after → IsGenerated means wanted status before after old new
+generated_told means number wanted before after status end old new e f told works =
+    subst (λ n. IsGenerated means n status before after old new) e (subst (λ s. IsGenerated means number s before after old new) (sym f) (by_end means number before after end old new told works))

@@ -1,4 +1,4 @@
-pub mod Statuses
-pub mod Texts
-pub mod Lines
+pub mod Named
+pub mod Listed
+pub mod Counting
 pub mod Asked

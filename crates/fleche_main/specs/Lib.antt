@@ -1,5 +1,3 @@
 pub mod Words
-pub mod Reports
-pub mod Outcome
-pub mod Status
+pub mod Generated
 pub mod Run

@@ -1,3 +1,0 @@
-//! What no clause says: the worked examples of the whole program.
-
-mod rows;
