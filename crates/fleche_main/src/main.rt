@@ -82,13 +82,39 @@ fn status_of(rt: &HostRuntime, words: &[String]) -> u8 {
     }
 }
 
+/// What standard error is told of a run that did not come to its end: the exit status in words.
+const REMARKS: [(Status, &str); 6] = [
+    (Status::NoForm, USAGE),
+    (Status::OutOfMemory, "fleche: out of memory\n"),
+    (
+        Status::NotWritten,
+        "fleche: standard output can't be written\n",
+    ),
+    (Status::NotRead, "fleche: the next file can't be read\n"),
+    (
+        Status::NotText,
+        "fleche: the next file is no UTF-8 text of at most 1,048,576 bytes\n",
+    ),
+    (
+        Status::FrameFault,
+        "fleche: what came is no message with a header\n",
+    ),
+];
+
+fn remark(status: u8) -> &'static str {
+    for (end, told) in REMARKS {
+        if end.number() == status {
+            return told;
+        }
+    }
+    ""
+}
+
 fn main(rt: HostRuntime) -> ExitCode {
     let status = match command_line(&rt) {
         Ok(words) => status_of(&rt, words.as_slice()),
         Err(status) => status,
     };
-    if status == Status::NoForm.number() {
-        let _ = rt.eprint(USAGE);
-    }
+    let _ = rt.eprint(remark(status));
     ExitCode::from(status)
 }
